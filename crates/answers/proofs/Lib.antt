@@ -1,0 +1,2 @@
+-- Laws of outcomes.
+pub mod OutcomeLaws

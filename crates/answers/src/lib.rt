@@ -1,0 +1,72 @@
+// What a call answers: a number where it is accepted, or why it is refused.
+ghost use mathlib.Core.Path.{_≡_};
+ghost use Rattle.answers.specs.Number.{numberOf, rowOf};
+
+// A case for each reason of 01's table of refusals; a row of a table stands with the cases that answer one.
+pub enum Refusal {
+    TableSize,
+    RowDepth(usize),
+    RowIdentity(usize),
+    Identity,
+    Room,
+    Register,
+    Target,
+    Root,
+    CodeLength,
+    Children,
+    Depth,
+    Label,
+    NoCode,
+    Order,
+}
+
+pub enum Answer {
+    Accepted(usize),
+    Refused(Refusal),
+}
+
+impl Refusal {
+    // The number of 01's table.
+    pub fn number(self) -> u32
+        ensures number { λ r. ⌜ r ≡ numberOf self ⌝ }
+    {
+        match self {
+            Refusal::TableSize => 1,
+            Refusal::RowDepth(_) => 2,
+            Refusal::RowIdentity(_) => 3,
+            Refusal::Identity => 3,
+            Refusal::Room => 4,
+            Refusal::Register => 5,
+            Refusal::Target => 6,
+            Refusal::Root => 7,
+            Refusal::CodeLength => 8,
+            Refusal::Children => 9,
+            Refusal::Depth => 10,
+            Refusal::Label => 11,
+            Refusal::NoCode => 12,
+            Refusal::Order => 13,
+        }
+    }
+
+    // The row that is answered with it, from 0; 0 where none is.
+    pub fn row(self) -> usize
+        ensures row { λ r. ⌜ r ≡ rowOf self ⌝ }
+    {
+        match self {
+            Refusal::TableSize => 0,
+            Refusal::RowDepth(row) => row,
+            Refusal::RowIdentity(row) => row,
+            Refusal::Identity => 0,
+            Refusal::Room => 0,
+            Refusal::Register => 0,
+            Refusal::Target => 0,
+            Refusal::Root => 0,
+            Refusal::CodeLength => 0,
+            Refusal::Children => 0,
+            Refusal::Depth => 0,
+            Refusal::Label => 0,
+            Refusal::NoCode => 0,
+            Refusal::Order => 0,
+        }
+    }
+}

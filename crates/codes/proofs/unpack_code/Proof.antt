@@ -1,0 +1,58 @@
+-- `unpack_code` meets its contract: the field's digits, where there is room for them. Assumes nothing.
+use mathlib.Core.Path.{_≡_, refl, sym, ap, _∙_}
+use mathlib.Core.List.{List}
+use Prim.Native.Nat.{ℕ, _<_, _≤_}
+use native.Mathlib.Omega.{arith}
+use lib.ListN.{length}
+use Rattle.answers.specs.declared.Answer.the-variants.{Accepted}
+use Rattle.answers.proofs.OutcomeLaws.{gives}
+use Rattle.numbers.specs.Bytes.{put}
+use Rattle.codes.specs.Field.{spread, lead}
+use Rattle.codes.proofs.SpreadLaws.{whole}
+use Rattle.codes.proofs.CallLaws.{full-code, full-size, known-code, unpack-short, unpack-written}
+use borrow.Author.Needs.{needs}
+use Rattle.codes.proofs.unpack_code.Statement.{statement}
+use Rattle.codes.proofs.unpack_code.Tie as tie
+use Rattle.codes.proofs.unpack_code.Reads as reads
+use Rattle.codes.proofs.unpack_code.Lts as lts
+use Rattle.codes.proofs.spread.of_field.Reads as of-field-reads
+use Rattle.numbers.proofs.copy.Reads as copy-reads
+
+of-field-requires : tie.Need-of-field-requires
+of-field-requires c κs = full-size _ (c .before .before .pre)
+
+returns : tie.Need-returns
+returns c =
+    let f = c .before in
+    let a = f .before .before .before in
+    let h = f .of-field .ensures in
+    let k : length (a .args .digits .now) < length (lead (spread (a .args .field .now))) = omega (arith, h .count) in
+    gives _ _ _ _ _ (unpack-short (a .args .field .now) (a .args .digits .now) _ (full-code _ (a .pre)) k) refl refl
+
+slice-aggregate-copy : tie.Need-slice-aggregate-copy
+slice-aggregate-copy c = search needs
+
+copy-requires : tie.Need-copy-requires
+copy-requires c κs =
+    let f = c .before .before .before .before in
+    let w = whole (f .of-field .result) _ (f .of-field .ok) in
+    let k = known-code _ _ (full-code _ (f .before .before .before .pre)) in
+    (omega arith, omega (arith, f .of-field .ensures .count, k .fits))
+
+same-length : tie.Need-same-length
+same-length c = search needs
+
+returns-2 : tie.Need-returns-2
+returns-2 c =
+    let p = c .before .before in
+    let f = p .before .before .before .before .before in
+    let a = f .before .before .before in
+    let h = f .of-field .ensures in
+    let k : length (lead (spread (a .args .field .now))) ≤ length (a .args .digits .now) = omega (arith, h .count) in
+    gives _ _ _ _ _ (unpack-written (a .args .field .now) (a .args .digits .now) _ (full-code _ (a .pre)) k) (ap Accepted (h .count))
+    (p .copy .ensures ∙ ap (put (a .args .digits .now) 0) (h .digits))
+
+pub unpack-code-spec : {M : Type 1} → statement M
+unpack-code-spec =
+    tie.close
+    (tie.spec of-field-requires returns slice-aggregate-copy copy-requires same-length returns-2)

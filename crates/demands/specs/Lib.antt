@@ -1,0 +1,2 @@
+-- The worked examples of 01 as a table.
+pub mod Worked

@@ -1,0 +1,45 @@
+-- 01, "Reckoned by hand": each example with what the definitions compute and what the paper says. P8 to P10 need edits.
+-- Assumes nothing.
+use mathlib.Core.Bool.{cond}
+use mathlib.Core.List.{List, [], _∷_, _++_}
+use Prim.Native.Nat.{ℕ}
+use lib.ListN.{take, replicate}
+use Rattle.digits.specs.Order.{Digits, below?}
+use Rattle.digits.specs.Between.{between}
+use Rattle.digits.specs.Thirds.{thirds}
+use Rattle.codes.specs.Field.{fieldOf}
+
+pub record Case : Type 0 where
+  pub number : ℕ
+  pub computed : List Digits
+  pub expected : List Digits
+
+abbrev case : ℕ → List Digits → List Digits → Case
+case number computed expected = record { number = number; computed = computed; expected = expected }
+
+-- one code, as a list
+abbrev one : Digits → List Digits
+one x = x ∷ []
+
+-- P2 to P7: the one code between two sides
+abbrev step : ℕ → Digits → Digits → Digits → Case
+step number left right expected = case number (one (between left right)) (one expected)
+
+-- P11 to P13: the first bytes of a packed code
+abbrev packed : ℕ → ℕ → Digits → List ℕ → Case
+packed number bytes x expected = case number (one (take bytes (fieldOf x))) (one expected)
+
+unfoldable pub worked : List Case
+worked =
+    case 1 (thirds [] [] 3) ((2 ∷ []) ∷ (3 ∷ []) ∷ [])
+    ∷ step 2 (2 ∷ []) (3 ∷ []) (2 ∷ 2 ∷ [])
+    ∷ step 3 [] [] (2 ∷ [])
+    ∷ step 4 [] (2 ∷ []) (1 ∷ 2 ∷ [])
+    ∷ step 5 (2 ∷ []) (2 ∷ 3 ∷ []) (2 ∷ 2 ∷ [])
+    ∷ step 6 (2 ∷ 2 ∷ []) (3 ∷ []) (2 ∷ 3 ∷ [])
+    ∷ step 7 (2 ∷ 3 ∷ []) (3 ∷ []) (2 ∷ 3 ∷ 2 ∷ [])
+    ∷ packed 11 1 (1 ∷ 2 ∷ []) (0x60 ∷ [])
+    ∷ packed 12 1 (2 ∷ 2 ∷ 3 ∷ []) (0xAC ∷ [])
+    ∷ packed 13 32 (2 ∷ 2 ∷ 2 ∷ 2 ∷ []) (0xAA ∷ 0x00 ∷ replicate 30 0)
+    ∷ case 14 (one (cond (below? (1 ∷ 2 ∷ []) (1 ∷ 2 ∷ 2 ∷ [])) (1 ∷ []) [])) (one (1 ∷ []))
+    ∷ []

@@ -1,0 +1,1 @@
+// The demands as theorems, and the paper's worked examples: see proofs/. No functions.

@@ -1,0 +1,1 @@
+// Theory of digit lists and codes: definitions in specs/, laws in proofs/. No functions.

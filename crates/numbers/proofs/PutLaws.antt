@@ -1,0 +1,115 @@
+-- Laws of `put`: its length, its parts, its elements, and what a further store or run makes of it. Assumes nothing.
+use mathlib.Core.Path.{_≡_, refl, sym, ap, _∙_}
+use mathlib.Core.List.{List, [], _∷_, _++_, append-assoc, append-nil}
+use Prim.Native.Nat.{ℕ, suc, _+_, _-_, _≤_, _<_}
+use native.Mathlib.Nat.{add-zero, add-assoc}
+use native.Mathlib.Numerals.{add-one, add-two, add-three}
+use native.Mathlib.Omega.{arith}
+use lib.ListN.{length, take, drop, getD, set, length-append, length-take, length-drop, take-append-drop, drop-of-length-le, List·getD-append, length-set}
+use lib.Seq.{set-append-left, length-take-le, take-append-le, take-at, take-take, take-add, drop-at, drop-append-add, drop-drop, set-split, getD-take, getD-drop, sets, sets-eq}
+use Rattle.numbers.specs.Bytes.{put}
+
+-- nothing put
+pub put-nil : (xs : List ℕ) (at : ℕ) → put xs at [] ≡ xs
+unfolding put
+put-nil xs at = rw add-zero (take-append-drop at xs)
+
+-- as many put as there are
+pub put-whole : (xs vs : List ℕ) → length vs ≡ length xs → put xs 0 vs ≡ vs
+unfolding put
+put-whole xs vs e =
+    let d : drop (0 + length vs) xs ≡ [] = drop-of-length-le xs {i = 0 + length vs} (omega arith) in
+    rw d (append-nil vs)
+
+-- the parts by name
+pub put-parts : (xs : List ℕ) (at : ℕ) (vs : List ℕ) {p q : List ℕ} → take at xs ≡ p → drop (at + length vs) xs ≡ q
+    → put xs at vs ≡ p ++ (vs ++ q)
+unfolding put
+put-parts xs at vs e d = rw (e, d)
+
+pub put-length : (xs : List ℕ) (at : ℕ) (vs : List ℕ) → at + length vs ≤ length xs → length (put xs at vs) ≡ length xs
+unfolding put
+put-length xs at vs fits = simp (length-append, length-take, length-drop) (omega arith)
+
+module _ (xs : List ℕ) (at : ℕ) (vs : List ℕ) (room : at ≤ length xs) where
+  -- the part before the run, the run, and the part after it
+  pub take-put : (n : ℕ) → n ≤ at → take n (put xs at vs) ≡ take n xs
+  unfolding put
+  take-put n h =
+      let l : length (take at xs) ≡ at = length-take-le at xs room in
+      take-append-le n (take at xs) (vs ++ drop (at + length vs) xs) (omega arith) ∙ take-take n at xs h
+
+  pub put-rest : drop at (put xs at vs) ≡ vs ++ drop (at + length vs) xs
+  unfolding put
+  put-rest = drop-at (take at xs) (vs ++ drop (at + length vs) xs) at (length-take-le at xs room)
+
+  pub put-run : take (length vs) (drop at (put xs at vs)) ≡ vs
+  put-run = rw put-rest (take-at vs (drop (at + length vs) xs) (length vs) refl)
+
+  pub take-put-run : take (at + length vs) (put xs at vs) ≡ take at xs ++ vs
+  take-put-run = rw (take-add at (length vs) (put xs at vs), put-run, take-put at (omega arith))
+
+  pub drop-put : (n : ℕ) → at + length vs ≤ n → drop n (put xs at vs) ≡ drop n xs
+  drop-put n h =
+      let k : ℕ = n - at - length vs in
+      let e : at + (length vs + k) ≡ n = omega arith in
+      rw (← e, ← drop-drop (length vs + k) at (put xs at vs), put-rest, drop-append-add, drop-drop, add-assoc)
+
+  -- the elements before the run, in it and after it
+  pub put-before : (i : ℕ) → i < at → getD (put xs at vs) i 0 ≡ getD xs i 0
+  put-before i h = rw (← getD-take at (put xs at vs) i 0 h, take-put at (omega arith)) (getD-take at xs i 0 h)
+
+  pub put-in : (j : ℕ) → j < length vs → getD (put xs at vs) (at + j) 0 ≡ getD vs j 0
+  put-in j h = rw (← getD-drop at (put xs at vs) j 0, put-rest) (List·getD-append vs (drop (at + length vs) xs) 0 j h)
+
+  pub put-after : (i : ℕ) → at + length vs ≤ i → getD (put xs at vs) i 0 ≡ getD xs i 0
+  put-after i h = simp (getD-drop, add-zero) at (ap (λ (l : List ℕ). getD l 0 0) (drop-put i h))
+
+  -- a second run, behind the first or in its place
+  pub put-put : (ws : List ℕ) → put (put xs at vs) (at + length vs) ws ≡ put xs at (vs ++ ws)
+  unfolding put
+  put-put ws =
+      put-parts (put xs at vs) (at + length vs) ws take-put-run (drop-put (at + length vs + length ws) (omega arith))
+      ∙ simp (append-assoc, length-append, add-assoc)
+
+  pub put-same-place : (ws : List ℕ) → length vs ≡ length ws → put (put xs at vs) at ws ≡ put xs at ws
+  unfolding put
+  put-same-place ws e = put-parts (put xs at vs) at ws (take-put at (omega arith)) (drop-put (at + length ws) (omega arith))
+
+-- a store is a run of one, and stores one after another are a run
+pub put-one : (xs : List ℕ) (at v : ℕ) → at < length xs → set xs at v ≡ put xs at (v ∷ [])
+unfolding put
+put-one xs at v h = rw (add-one at) (set-split xs at v h)
+
+pub put-stores : (xs : List ℕ) (at : ℕ) (vs : List ℕ) → at + length vs ≤ length xs → sets xs at vs ≡ put xs at vs
+unfolding put
+put-stores xs at vs fits = sets-eq vs xs at fits ∙ append-assoc (take at xs) vs (drop (at + length vs) xs)
+
+-- four stores in a row are one run
+pub put-four : (xs : List ℕ) (at a b d e : ℕ) → at + 4 ≤ length xs
+    → set (set (set (set xs at a) (at + 1) b) (at + 2) d) (at + 3) e ≡ put xs at (a ∷ b ∷ d ∷ e ∷ [])
+put-four xs at a b d e fits = rw (add-one at, add-two at, add-three at) (put-stores xs at (a ∷ b ∷ d ∷ e ∷ []) fits)
+
+-- a store in front of the run, and one behind it
+pub put-cons : (xs : List ℕ) (at : ℕ) (vs : List ℕ) (v : ℕ) → suc at + length vs ≤ length xs
+    → set (put xs (suc at) vs) at v ≡ put xs at (v ∷ vs)
+put-cons xs at vs v fits =
+    let l : at < length (put xs (suc at) vs) = rw (put-length xs (suc at) vs fits) (omega arith) in
+    let e : at + suc (length vs) ≡ suc at + length vs = omega arith in
+    rw (
+      set-split (put xs (suc at) vs) at v l,
+      take-put xs (suc at) vs (omega arith) at (omega arith),
+      put-rest xs (suc at) vs (omega arith),
+      ← e,
+    ) (sym (put-parts xs at (v ∷ vs) refl refl))
+
+pub put-snoc : (xs : List ℕ) (at : ℕ) (vs : List ℕ) (v : ℕ) → at + length vs < length xs
+    → set (put xs at vs) (at + length vs) v ≡ put xs at (vs ++ (v ∷ []))
+put-snoc xs at vs v fits =
+    let l : length (put xs at vs) ≡ length xs = put-length xs at vs (omega arith) in
+    put-one (put xs at vs) (at + length vs) v (omega arith) ∙ put-put xs at vs (omega arith) (v ∷ [])
+
+-- a store inside a run at the front is one into the run
+pub put-set-front : (xs vs : List ℕ) (j v : ℕ) → j < length vs → set (put xs 0 vs) j v ≡ put xs 0 (set vs j v)
+unfolding put
+put-set-front xs vs j v h = rw (length-set vs j v) (set-append-left vs (drop (0 + length vs) xs) j v h)
