@@ -1,10 +1,17 @@
 -- Laws of outcomes: what a call has to show of its answer and of the lent bytes, and that only one outcome is right.
 -- Assumes nothing.
-use mathlib.Core.Path.{_≡_, sym, ap, _∙_}
+use mathlib.Core.Path.{_≡_, refl, sym, ap, _∙_}
+use mathlib.Core.Bool.{false}
 use mathlib.Core.List.{List}
 use Prim.Native.Nat.{ℕ}
 use Rattle.answers.specs.declared.Answer.{Answer}
-use Rattle.answers.specs.Outcome.{Outcome}
+use Rattle.answers.specs.declared.Answer.the-variants.{Refused}
+use Rattle.answers.specs.declared.Refusal.{Refusal}
+use Rattle.answers.specs.Outcome.{Outcome, unless}
+
+-- a refusal leaves every lent byte, and is answered where its test fails
+pub unless-fails : (r : Refusal) (b : List ℕ) (o : Outcome) → unless false r b o ≡ record { answer = Refused r; bytes = b }
+unless-fails r b o = refl
 
 -- a call whose outcome is known gives that answer and leaves those bytes
 pub gives : (o : Outcome) (a b : Answer) (x y : List ℕ) → o ≡ record { answer = a; bytes = x } → b ≡ a → y ≡ x

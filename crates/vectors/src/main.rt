@@ -27,7 +27,7 @@ fn first_codes() {
     gap(OPEN, OPEN, 19);
     text(b"\nP1:");
     gap(OPEN, OPEN, 3);
-    text(b"\n");
+    newline();
 }
 
 // The codes inside a gap of width d, from left to right.
@@ -90,16 +90,16 @@ fn steps() {
 fn step(name: &[u8], left: &[u8], right: &[u8]) {
     text(name);
     code(middle(field_of(left), field_of(right)));
-    text(b"\n");
+    newline();
 }
 
 // P11 to P14.
 fn fields() {
-    text(b"P11: ");
+    text(b"P11:");
     runs(&field_of(&[1, 2]));
-    text(b"P12: ");
+    text(b"P12:");
     runs(&field_of(&[2, 2, 3]));
-    text(b"P13: ");
+    text(b"P13:");
     runs(&field_of(&[2, 2, 2, 2]));
     text(b"P14: ");
     before(field_of(&[1, 2]), field_of(&[1, 2, 2]));
@@ -118,136 +118,146 @@ fn before(left: [u8; 32], right: [u8; 32]) {
 }
 
 fn packing() {
-    let long = [3u8; 127];
-    let longer = [3u8; 128];
-    pack(b"pack 12 in 32: ", &[1, 2], 32);
-    pack(b"pack 12 in 40: ", &[1, 2], 40);
-    pack(b"pack 12 in 31: ", &[1, 2], 31);
-    pack(b"pack 2223 in 32: ", &[2, 2, 2, 3], 32);
-    pack(b"pack nothing: ", &[], 40);
-    pack(b"pack 1: ", &[1], 40);
-    pack(b"pack 231: ", &[2, 3, 1], 40);
-    pack(b"pack 202: ", &[2, 0, 2], 40);
-    pack(b"pack 242: ", &[2, 4, 2], 40);
-    pack(b"pack 24: ", &[2, 4], 40);
-    pack(b"pack 1 in 0: ", &[1], 0);
-    pack(b"pack 127 digits: ", &long, 40);
-    pack(b"pack 128 digits: ", &longer, 40);
+    pack(b"pack 12 in 32:", &[1, 2], 32);
+    pack(b"pack 12 in 40:", &[1, 2], 40);
+    pack(b"pack 12 in 31:", &[1, 2], 31);
+    pack(b"pack 2223 in 32:", &[2, 2, 2, 3], 32);
+    pack(b"pack nothing:", &[], 40);
+    pack(b"pack 1:", &[1], 40);
+    pack(b"pack 231:", &[2, 3, 1], 40);
+    pack(b"pack 202:", &[2, 0, 2], 40);
+    pack(b"pack 242:", &[2, 4, 2], 40);
+    pack(b"pack 24:", &[2, 4], 40);
+    pack(b"pack 1 in 0:", &[1], 0);
+    pack(b"pack 127 digits:", &[3; 127], 40);
+    pack(b"pack 128 digits:", &[3; 128], 40);
 }
 
 fn pack(name: &[u8], digits: &[u8], room: usize)
     requires fits { ⌜ room ≤ 40 ⌝ }
 {
-    let mut field = [FILL; 40];
     text(name);
+    pack_in(digits, &mut [FILL; 40], room);
+}
+
+fn pack_in(digits: &[u8], field: &mut [u8], room: usize)
+    requires fits { ⌜ room ≤ length (now field) ⌝ }
+{
     answered(Code::pack(digits, &mut field[..room]));
-    runs(&field);
+    runs(field);
 }
 
 fn unpacking() {
-    let long = field_of(&[3u8; 127]);
-    let full = [255u8; 32];
-    let mut late = field_of(&[2, 3]);
+    let code = field_of(&[2, 3]);
+    let long = field_of(&[3; 127]);
+    let mut late = code;
     late[31] = 2;
-    let mut gone = field_of(&[2, 3]);
+    let mut gone = code;
     gone[1] = 32;
-    let mut last = field_of(&[2, 3]);
-    last[0] = 164;
-    let wide = [0u8; 33];
-    unpack(b"unpack 23 in 2: ", &field_of(&[2, 3]), 2);
-    unpack(b"unpack 23 in 9: ", &field_of(&[2, 3]), 9);
-    unpack(b"unpack 23 in 1: ", &field_of(&[2, 3]), 1);
-    unpack(b"unpack empty: ", &OPEN, 130);
-    unpack(b"unpack 31 bytes: ", &late[..31], 130);
-    unpack(b"unpack 33 bytes: ", &wide, 130);
-    unpack(b"unpack last bits set: ", &late, 130);
-    unpack(b"unpack digit after zero: ", &gone, 130);
-    unpack(b"unpack last digit 1: ", &last, 130);
-    unpack(b"unpack 128 digits: ", &full, 130);
-    unpack(b"unpack 127 digits in 127: ", &long, 127);
-    unpack(b"unpack 127 digits in 126: ", &long, 126);
-    unpack(b"unpack empty in 0: ", &OPEN, 0);
+    let mut last = code;
+    last[0] = 180;
+    unpack(b"unpack 23 in 2:", code, 2);
+    unpack(b"unpack 23 in 9:", code, 9);
+    unpack(b"unpack 23 in 1:", code, 1);
+    unpack(b"unpack empty:", OPEN, 130);
+    unpack(b"unpack empty in 0:", OPEN, 0);
+    unpack(b"unpack last bits set:", late, 130);
+    unpack(b"unpack digit after zero:", gone, 130);
+    unpack(b"unpack last digit 1:", last, 130);
+    unpack(b"unpack 128 digits:", [255; 32], 130);
+    unpack(b"unpack 127 digits in 127:", long, 127);
+    unpack(b"unpack 127 digits in 126:", long, 126);
+    unpack_bytes(b"unpack 31 bytes:", &[0; 31]);
+    unpack_bytes(b"unpack 33 bytes:", &[0; 33]);
+    unpack_bytes(b"unpack no bytes:", &[]);
 }
 
-fn unpack(name: &[u8], field: &[u8], room: usize)
+fn unpack(name: &[u8], field: [u8; 32], room: usize)
     requires fits { ⌜ room ≤ 130 ⌝ }
 {
-    let mut digits = [FILL; 130];
     text(name);
+    unpack_in(&field, &mut [FILL; 130], room);
+}
+
+fn unpack_bytes(name: &[u8], field: &[u8]) {
+    text(name);
+    unpack_in(field, &mut [FILL; 130], 130);
+}
+
+fn unpack_in(field: &[u8], digits: &mut [u8], room: usize)
+    requires fits { ⌜ room ≤ length (now digits) ⌝ }
+{
     answered(Code::unpack(field, &mut digits[..room]));
-    runs(&digits);
+    runs(digits);
 }
 
 fn betweens() {
     let two = field_of(&[2]);
     let three = field_of(&[3]);
-    let short = field_of(&[3u8; 126]);
-    let long = field_of(&[3u8; 127]);
-    let mut even = [3u8; 127];
+    let bad = [255; 32];
+    between(b"between 2 and 3 in 40:", two, three, 40);
+    between(b"between 2 and 3 in 32:", two, three, 32);
+    between(b"between 2 and 3 in 31:", two, three, 31);
+    between(b"between 3 and 2:", three, two, 40);
+    between(b"between 2 and 2:", two, two, 40);
+    between(b"between 3 and 2 in 0:", three, two, 0);
+    between(b"between unsound and 2:", bad, two, 40);
+    between(b"between 2 and unsound:", two, bad, 40);
+    between(b"between unsound and open in 0:", bad, OPEN, 0);
+    between_bytes(b"between 31 bytes and open:", &[0; 31], &[0; 32]);
+    between_bytes(b"between open and 33 bytes:", &[0; 32], &[0; 33]);
+    longest();
+}
+
+// Both sides of 127 digits.
+fn longest() {
+    let long = field_of(&[3; 127]);
+    let mut even = [3; 127];
     even[126] = 2;
     let low = field_of(&even);
-    let mut one = [1u8; 127];
-    one[126] = 2;
-    let least = field_of(&one);
-    let bad = [255u8; 32];
-    between(b"between 2 and 3 in 40: ", &two, &three, 40);
-    between(b"between 2 and 3 in 32: ", &two, &three, 32);
-    between(b"between 2 and 3 in 31: ", &two, &three, 31);
-    between(b"between 3 and 2: ", &three, &two, 40);
-    between(b"between 2 and 2: ", &two, &two, 40);
-    between(b"between 3 and 2 in 0: ", &three, &two, 0);
-    between(b"between unsound and 2: ", &bad, &two, 40);
-    between(b"between 2 and unsound: ", &two, &bad, 40);
-    between(b"between 3 and 31 bytes: ", &three, &two[..31], 40);
-    between(b"between unsound and open in 0: ", &bad, &OPEN, 0);
+    let mut ones = [1; 127];
+    ones[126] = 2;
+    let least = field_of(&ones);
     between(
-        b"between 2 and 23 after a deletion: ",
-        &two,
-        &field_of(&[2, 3]),
+        b"between 126 digits and open:",
+        field_of(&[3; 126]),
+        OPEN,
         40,
     );
-    between(b"between 126 digits and open: ", &short, &OPEN, 40);
-    between(
-        b"between 127 digits ending in 3 and open: ",
-        &long,
-        &OPEN,
-        40,
-    );
-    between(
-        b"between 127 digits ending in 2 and open: ",
-        &low,
-        &OPEN,
-        40,
-    );
-    between(
-        b"between open and 127 digits ending in 2: ",
-        &OPEN,
-        &least,
-        40,
-    );
-    between(
-        b"between 127 digits ending in 3 and open in 31: ",
-        &long,
-        &OPEN,
-        31,
-    );
-    between(b"between two of 127 digits: ", &low, &long, 40);
+    between(b"between 127 digits ending in 3 and open:", long, OPEN, 40);
+    between(b"between 127 digits ending in 2 and open:", low, OPEN, 40);
+    between(b"between open and 127 digits ending in 2:", OPEN, least, 40);
+    between(b"between open and 127 digits ending in 3:", OPEN, long, 40);
+    between(b"between two of 127 digits:", low, long, 40);
+    between(b"between two of 127 digits in 31:", low, long, 31);
 }
 
-fn between(name: &[u8], left: &[u8], right: &[u8], room: usize)
+fn between(name: &[u8], left: [u8; 32], right: [u8; 32], room: usize)
     requires fits { ⌜ room ≤ 40 ⌝ }
 {
-    let mut field = [FILL; 40];
     text(name);
-    answered(Code::between(left, right, &mut field[..room]));
-    runs(&field);
+    between_in(&left, &right, &mut [FILL; 40], room);
 }
 
-// The packer's function with plain parameters: the digits 2 2 3 in one byte.
+fn between_bytes(name: &[u8], left: &[u8], right: &[u8]) {
+    text(name);
+    between_in(left, right, &mut [FILL; 40], 40);
+}
+
+fn between_in(left: &[u8], right: &[u8], field: &mut [u8], room: usize)
+    requires fits { ⌜ room ≤ length (now field) ⌝ }
+{
+    answered(Code::between(left, right, &mut field[..room]));
+    runs(field);
+}
+
+// The packer updated where it stands: 223 again.
 fn packer() {
-    let a = codes::byte_after(0, 0, 2);
-    text(b"packer: ");
-    runs(&[a]);
+    let one = codes::byte_after(0, 0, 2);
+    let two = codes::byte_after(one, 1, 2);
+    let three = codes::byte_after(two, 2, 3);
+    text(b"packer 223:");
+    runs(&[one, two, three]);
 }
 
 fn text(bytes: &[u8]) {
@@ -258,14 +268,15 @@ fn text(bytes: &[u8]) {
 fn answered(answer: Answer) {
     match answer {
         Answer::Accepted(n) => {
+            text(b" ");
             io::print_decimal(STDOUT_FILENO, n as u64);
         }
         Answer::Refused(refusal) => {
-            text(b"refused ");
+            text(b" refused ");
             io::print_decimal(STDOUT_FILENO, refusal.number() as u64);
         }
     }
-    text(b"; ");
+    text(b";");
 }
 
 fn wide(byte: u8) -> u64 {
@@ -285,14 +296,21 @@ fn runs(bytes: &[u8]) {
     let mut i = 0;
     while i < bytes.len() {
         let n = run(bytes, i);
-        if 0 < i {
-            text(b" ");
-        }
-        io::print_hex(STDOUT_FILENO, wide(bytes[i]), 2);
-        text(b"*");
-        io::print_decimal(STDOUT_FILENO, n as u64);
+        times(wide(bytes[i]), n as u64);
         i += n;
     }
+    newline();
+}
+
+// A byte in hexadecimal, and how often.
+fn times(byte: u64, n: u64) {
+    text(b" ");
+    io::print_hex(STDOUT_FILENO, byte, 2);
+    text(b"*");
+    io::print_decimal(STDOUT_FILENO, n);
+}
+
+fn newline() {
     text(b"\n");
 }
 
