@@ -15,7 +15,7 @@ use Rattle.digits.proofs.OrderLaws.{below?→}
 use Rattle.digits.proofs.CodeLaws.{formed-side, below-under}
 use Rattle.digits.proofs.BetweenLaws.{between-inside}
 use Rattle.answers.specs.declared.Refusal.the-variants.{Room, CodeLength, NoCode, Order}
-use Rattle.answers.specs.Outcome.{Outcome, accepted, refused}
+use Rattle.answers.specs.Outcome.{accepted, refused}
 use Rattle.numbers.specs.Bytes.{put}
 use Rattle.codes.specs.declared.Sides.{Sides}
 use Rattle.codes.specs.declared.Sides.the-variants.{Ordered, NoSide, Disordered}
@@ -26,7 +26,7 @@ use Rattle.codes.specs.Field.{fieldOf, spread, lead, Slots}
 use Rattle.codes.specs.Reading.{Reading, code, empty, unsound, read, kindOf, sideOf}
 use Rattle.codes.specs.declared.spread.Code.{Code}
 use Rattle.codes.specs.Spread.{digitsOf, Held}
-use Rattle.codes.specs.Calls.{written, packOutcome, unpackOutcome, sidesOf, betweenSides, betweenAs, betweenOutcome}
+use Rattle.codes.specs.Calls.{written, packOutcome, unpackOutcome, sidesOf, betweenOutcome}
 use Rattle.codes.proofs.FieldLaws.{field-length, lead-field, formed-quaternary, below?-field}
 use Rattle.codes.proofs.ReadingLaws.{read-code, read-empty}
 use Rattle.codes.proofs.SpreadLaws.{held-is}
@@ -138,7 +138,8 @@ full-below left right x y p q =
     let b = read-code right y q in
     rw (a .1, b .1) (below?-field x y (a .0) (b .0))
 
-sides-read : (left right : List ℕ) → sidesOf (read left) (read right) ≡ sidesAs (kindOf (read left)) (kindOf (read right)) (below? left right)
+sides-read : (left right : List ℕ)
+    → sidesOf (read left) (read right) ≡ sidesAs (kindOf (read left)) (kindOf (read right)) (below? left right)
 sides-read left right = go (read left) (read right) refl refl
   where
     go : (p q : Reading) → read left ≡ p → read right ≡ q → sidesOf p q ≡ sidesAs (kindOf p) (kindOf q) (below? left right)

@@ -2,9 +2,8 @@
 -- Assumes nothing.
 use mathlib.Core.Path.{_≡_, refl, sym, ap, _∙_, subst₂}
 use mathlib.Core.Logic.{_⊎_, inl, inr}
-use mathlib.Core.Bool.{Bool, true, false}
 use mathlib.Core.List.{List, [], _∷_, _++_}
-use Prim.Native.Nat.{ℕ, zero, suc, _+_, _*_, _/_, _%_, _≤_, _<_}
+use Prim.Native.Nat.{ℕ, zero, suc, _/_, _%_, _≤_, _<_}
 use native.Mathlib.Omega.{arith}
 use lib.ListN.{length, getD, take, drop}
 use Rattle.digits.specs.Lists.{All}
@@ -76,7 +75,8 @@ pub spread-gather : (n : ℕ) (x : Digits) → Quaternary x → spread (gather n
 spread-gather zero x a = refl
 spread-gather (suc n) x a =
     rw (pad-four (four n) x, spread-gather n (drop 4 x) (quaternary-drop x 4 a))
-    (ap (λ (l : Digits). l ++ pad (four n) (drop 4 x)) (byte-quads _ _ _ _ (digit-lt x 0 a) (digit-lt x 1 a) (digit-lt x 2 a) (digit-lt x 3 a)))
+    (ap (λ (l : Digits). l ++ pad (four n) (drop 4 x))
+    (byte-quads _ _ _ _ (digit-lt x 0 a) (digit-lt x 1 a) (digit-lt x 2 a) (digit-lt x 3 a)))
 
 pub gather-spread : (b : List ℕ) → Bytes b → gather (length b) (spread b) ≡ b
 gather-spread [] a = refl

@@ -2,11 +2,11 @@
 -- Assumes nothing.
 use mathlib.Core.Path.{_≡_, refl, sym, ap, _∙_}
 use mathlib.Core.List.{List, [], _∷_, _++_, append-nil, append-assoc}
-use Prim.Native.Nat.{ℕ, zero, suc, _+_, _-_, _*_, _/_, _%_, _≤_, _<_, compare, Ordering}
+use Prim.Native.Nat.{ℕ, zero, suc, _+_, _-_, _*_, _/_, _%_, _≤_, _<_, Ordering}
 use native.Mathlib.Numerals.{add-one}
 use native.Mathlib.Omega.{arith}
 use lib.ListN.{length, take, drop, getD, set, length-map, length-append, drop-of-length-le}
-use lib.Seq.{take-suc, take-suc-set, drop-cons, length-take-le, take-all}
+use lib.Seq.{take-suc, take-suc-set, drop-cons, length-take-le}
 use mir.Val.{Val}
 use denote.Laws.{Is}
 use denote.Struct.Declared.{row}
@@ -30,7 +30,8 @@ pub held-is : (c : Code) (x y : Digits) → x ≡ y → Held c x → Held c y
 held-is c x y e h = record { digits = h .digits ∙ e; count = h .count ∙ ap length e }
 
 -- one digit stored behind the others
-pub held-store : (d : List ℕ) (n digit : ℕ) → n < length d → Held (record { digits = set d n digit; count = n + 1 }) (take n d ++ (digit ∷ []))
+pub held-store : (d : List ℕ) (n digit : ℕ) → n < length d
+    → Held (record { digits = set d n digit; count = n + 1 }) (take n d ++ (digit ∷ []))
 held-store d n digit h = record {
   digits = rw add-one (take-suc-set d n digit h);
   count = simp length-append (let e = length-take-le n d (omega arith) in omega arith);

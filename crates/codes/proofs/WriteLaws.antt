@@ -1,18 +1,17 @@
 -- Laws of writing a field digit by digit.
 -- Assumes nothing.
-use mathlib.Core.Path.{_≡_, refl, sym, ap, _∙_}
+use mathlib.Core.Path.{_≡_, sym, ap, _∙_}
 use mathlib.Core.List.{List, [], _∷_, _++_}
-use Prim.Native.Nat.{ℕ, _+_, _*_, _/_, _≤_, _<_}
+use Prim.Native.Nat.{ℕ, _+_, _/_, _≤_, _<_}
 use native.Mathlib.Numerals.{add-one}
 use native.Mathlib.Omega.{arith}
 use lib.ListN.{length, take, getD, set, replicate}
 use lib.Seq.{take-suc, length-take-le}
-use Rattle.digits.specs.Lists.{All}
 use Rattle.digits.specs.Order.{Digits}
 use Rattle.numbers.specs.Bytes.{put}
 use Rattle.numbers.proofs.PutLaws.{put-set-front, put-same-place}
 use Rattle.codes.specs.declared.packer.Packer.{Packer}
-use Rattle.codes.specs.Field.{gather, fieldOf, Slots}
+use Rattle.codes.specs.Field.{fieldOf, Slots}
 use Rattle.codes.specs.Packer.{pushed, Pushable}
 use Rattle.codes.proofs.FieldLaws.{field-length, quaternary-take, digit-lt}
 use Rattle.codes.proofs.PackerLaws.{pushes, pushes-snoc, pushes-count, pushes-open, gather-push}

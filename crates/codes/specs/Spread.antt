@@ -1,7 +1,7 @@
 -- A code spread out as digits in an array, with their count.
 -- Assumes nothing.
 use mathlib.Core.Path.{_≡_}
-use Prim.Native.Nat.{ℕ, _≤_, _<_}
+use Prim.Native.Nat.{_≤_, _<_}
 use lib.ListN.{length, take}
 use Rattle.digits.specs.Order.{Digits}
 use Rattle.codes.specs.Code.{longest}

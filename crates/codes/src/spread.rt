@@ -3,7 +3,7 @@ ghost use mathlib.Core.Path.{_≡_};
 ghost use mathlib.Core.List.{[], _∷_, _++_};
 ghost use Prim.Native.Nat.{_-_, _*_, _<_, _≤_};
 ghost use lib.ListN.{length, getD};
-ghost use Rattle.digits.specs.Between.{Shape, Gap, between, remade, lower, raise};
+ghost use Rattle.digits.specs.Between.{between, remade, lower, raise};
 ghost use Rattle.codes.specs.Code.{longest, fieldSize};
 ghost use Rattle.codes.specs.Field.{spread, lead};
 ghost use Rattle.codes.specs.Spread.{digitsOf, Held, Fit};

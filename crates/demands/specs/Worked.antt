@@ -1,7 +1,7 @@
 -- 01, "Reckoned by hand": each example with what the definitions compute and what the paper says. P8 to P10 need edits.
 -- Assumes nothing.
 use mathlib.Core.Bool.{cond}
-use mathlib.Core.List.{List, [], _∷_, _++_}
+use mathlib.Core.List.{List, [], _∷_}
 use Prim.Native.Nat.{ℕ}
 use lib.ListN.{take, replicate}
 use Rattle.digits.specs.Order.{Digits, below?}

@@ -1,18 +1,17 @@
 -- Laws of the step between: a remade last digit, strictly inside the gap, lengths, and the pair of a new entry.
 -- Assumes nothing.
-use mathlib.Core.Path.{_≡_, refl, sym, ap}
+use mathlib.Core.Path.{_≡_, refl, ap}
 use mathlib.Core.Logic.{_⊎_, inl, inr}
-use mathlib.Core.Bool.{Bool, true, false, cond}
-use mathlib.Core.List.{List, [], _∷_, _++_}
-use Prim.Native.Nat.{ℕ, zero, suc, _+_, _≤_, _<_, max, compare, Ordering, Ordering·lt, Ordering·eq, Ordering·gt}
+use mathlib.Core.List.{[], _∷_, _++_}
+use Prim.Native.Nat.{ℕ, suc, _+_, _≤_, _<_, max, compare, Ordering, Ordering·lt, Ordering·eq, Ordering·gt}
 use native.Mathlib.Omega.{arith}
 use native.Mathlib.Decide.{ℕ-discrete}
 use lib.ListN.{length, length-append}
 use Rattle.digits.specs.Order.{Digits, Below}
-use Rattle.digits.specs.Code.{Side, Under}
+use Rattle.digits.specs.Code.{Under}
 use Rattle.digits.specs.Between.{Shape, Gap, Inside, remade, lower, raise, betweenAt, between, startOf, endOf, Pair}
 use Rattle.digits.proofs.OrderLaws.{Compared, compared, lt, eq, gt, below-append}
-use Rattle.digits.proofs.CodeLaws.{formed-length, formed-side, side-formed, formed-cons, formed-append, under-below, below-under}
+use Rattle.digits.proofs.CodeLaws.{formed-side, side-formed, formed-cons, formed-append, under-below, below-under}
 
 -- a code's last digit is 2 or 3
 pub last-digit : (P : ℕ → Type 0) → P 2 → P 3 → (d : ℕ) → Shape (d ∷ []) → P d

@@ -25,7 +25,11 @@ all-join P (x ∷ xs) ys a h p k = (h .0, all-join P xs ys a (h .1) p k)
 -- the numbers below n + 1, with n taken out
 Taken : ℕ → List ℕ → Type 0
 Taken n xs =
-    (ys : List ℕ) × All (λ y. y < n) ys × Distinct ys × (length xs ≤ suc (length ys)) × ((z : ℕ) → All (λ y. z ≢ y) xs → All (λ y. z ≢ y) ys)
+    (ys : List ℕ)
+    × All (λ y. y < n) ys
+    × Distinct ys
+    × (length xs ≤ suc (length ys))
+    × ((z : ℕ) → All (λ y. z ≢ y) xs → All (λ y. z ≢ y) ys)
 
 take-out : (n : ℕ) (xs : List ℕ) → All (λ x. x < suc n) xs → Distinct xs → Taken n xs
 unfolding Taken

@@ -3,14 +3,14 @@
 use mathlib.Core.Path.{_≡_, refl, ap}
 use mathlib.Core.Logic.{inl, inr}
 use mathlib.Core.List.{List, [], _∷_, _++_}
-use Prim.Native.Nat.{ℕ, zero, suc, _+_, _-_, _*_, _/_, _^_, _≤_, _<_, max, compare, Ordering, Ordering·lt, Ordering·eq, Ordering·gt}
+use Prim.Native.Nat.{ℕ, zero, suc, _+_, _^_, _≤_, _<_, max, compare, Ordering, Ordering·lt, Ordering·eq, Ordering·gt}
 use native.Mathlib.Nat.{zero-add}
 use native.Mathlib.Omega.{arith}
 use lib.ListN.{length, length-append}
 use Rattle.digits.specs.Lists.{All}
 use Rattle.digits.specs.Order.{Digits, Below}
 use Rattle.digits.specs.Code.{Side, Within, Rising, Enough}
-use Rattle.digits.specs.Between.{Shape, Gap, Inside, remade, lower, between}
+use Rattle.digits.specs.Between.{Shape, Gap, remade, lower, between}
 use Rattle.digits.specs.Thirds.{lowerLess, firstAt, secondAt, first, second, leftPart, middlePart, rightPart, thirdsDeep, thirds}
 use Rattle.digits.proofs.ListLaws.{all-map, all-join}
 use Rattle.digits.proofs.OrderLaws.{Compared, compared, lt, eq, gt, below-append}
@@ -44,13 +44,15 @@ module _ (l r : Digits) (g : Gap l r) where
       let s = side-formed 1 3 r (omega arith) (g .right) in
       let a = lowered-shape r s in
       let b = remade-shape lowerLess (last-digit (λ d. Shape (lowerLess d)) (omega arith) (omega arith)) r s in
+      let p = last-digit (λ d. length (lower d) ≤ 2) (omega arith) (omega arith) in
+      let q = last-digit (λ d. length (lowerLess d) ≤ 2) (omega arith) (omega arith) in
       let m = last-digit (λ d. Below (lower d) (lowerLess d)) (inr (refl, inl (omega arith))) (inr (refl, tt)) in
       let n = last-digit (λ d. Below (lowerLess d) (kept d)) (inl (omega arith)) (inl (omega arith)) in
       record {
         lower-shape = a;
         upper-shape = b;
-        lower-length = omega (arith, remade-length lower 2 (last-digit (λ d. length (lower d) ≤ 2) (omega arith) (omega arith)) r s);
-        upper-length = omega (arith, remade-length lowerLess 2 (last-digit (λ d. length (lowerLess d) ≤ 2) (omega arith) (omega arith)) r s);
+        lower-length = omega (arith, remade-length lower 2 p r s);
+        upper-length = omega (arith, remade-length lowerLess 2 q r s);
         left = gap-to l _ (g .left) a (below-lowered l r s h (under-below 1 3 l r s (g .order)));
         middle = gap-to _ _ (formed-side 1 3 (remade lower r) a) b (remade-order lower lowerLess m r s);
         right = gap-to _ r (formed-side 1 3 (remade lowerLess r) b) s (rw (remade-kept r) at (remade-order lowerLess kept n r s));

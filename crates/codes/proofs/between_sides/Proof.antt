@@ -1,15 +1,14 @@
 -- `between_sides` meets its contract: the step on the two sides' digits, where there is room and the code fits. Assumes nothing.
-use mathlib.Core.Path.{_≡_, refl, sym, ap, _∙_}
+use mathlib.Core.Path.{refl, sym, ap, _∙_}
 use mathlib.Core.List.{List}
-use Prim.Native.Nat.{ℕ, _<_, _≤_}
+use Prim.Native.Nat.{ℕ}
 use native.Mathlib.Omega.{arith}
-use lib.ListN.{length}
 use lib.Seq.{length-take-le}
 use Rattle.digits.specs.Between.{between}
 use Rattle.answers.specs.declared.Answer.the-variants.{Accepted}
 use Rattle.answers.proofs.OutcomeLaws.{gives}
 use Rattle.numbers.specs.Bytes.{put}
-use Rattle.codes.specs.Field.{fieldOf, Slots}
+use Rattle.codes.specs.Field.{fieldOf}
 use Rattle.codes.specs.Reading.{read, sideOf}
 use Rattle.codes.specs.Spread.{Held}
 use Rattle.codes.proofs.SpreadLaws.{whole}
@@ -17,11 +16,6 @@ use Rattle.codes.proofs.CallLaws.{in-order, known-count, held-between, 
 use borrow.Author.Needs.{needs}
 use Rattle.codes.proofs.between_sides.Statement.{statement}
 use Rattle.codes.proofs.between_sides.Tie as tie
-use Rattle.codes.proofs.between_sides.Reads as reads
-use Rattle.codes.proofs.between_sides.Lts as lts
-use Rattle.codes.proofs.spread.of_field.Reads as of-field-reads
-use Rattle.codes.proofs.spread.step.Reads as step-reads
-use Rattle.codes.proofs.write_field.Reads as write-field-reads
 
 returns : tie.Need-returns
 returns c =

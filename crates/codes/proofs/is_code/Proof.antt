@@ -2,14 +2,11 @@
 use mathlib.Core.Path.{_≡_, refl}
 use Prim.Native.Nat.{_+_, _-_, _≤_}
 use native.Mathlib.Omega.{arith}
-use lib.ListN.{length, drop}
-use borrow.Author.Needs.{needs}
+use lib.ListN.{drop}
 use Rattle.digits.specs.Code.{formed?}
 use Rattle.codes.proofs.TestLaws.{code?-nothing, code?-long, digit-low, digit-high, digit-on, last-low, last-digit}
 use Rattle.codes.proofs.is_code.Statement.{statement}
 use Rattle.codes.proofs.is_code.Tie as tie
-use Rattle.codes.proofs.is_code.Reads as reads
-use Rattle.codes.proofs.is_code.Lts as lts
 
 abbrev Inv-loop : tie.InvT-loop
 Inv-loop digits n i₀ i = (i + 1 ≤ n) × (formed? 1 3 (drop i digits) ≡ formed? 1 3 digits)

@@ -6,10 +6,6 @@ use Rattle.codes.proofs.CallLaws.{full-size, sides-kinds}
 use borrow.Author.Needs.{needs}
 use Rattle.codes.proofs.sides_of.Statement.{statement}
 use Rattle.codes.proofs.sides_of.Tie as tie
-use Rattle.codes.proofs.sides_of.Reads as reads
-use Rattle.codes.proofs.sides_of.Lts as lts
-use Rattle.codes.proofs.field.below.Reads as below-reads
-use Rattle.codes.proofs.field.kind_of.Reads as kind-of-reads
 
 kind-of-requires : tie.Need-kind-of-requires
 kind-of-requires c κs = search needs
@@ -50,8 +46,10 @@ enum-told-9 c = search needs
 below-requires : tie.Need-below-requires
 below-requires c κs =
     let m = c .before .before in
-    let k = m .before .before .before in
-    (full-size _ (sym (k .kind-of .ensures) ∙ m .before .enum-told6 .given .1), full-size _ (sym (m .kind-of3 .ensures) ∙ c .enum-told9 .given .1))
+    let k = m .before .before .before in (
+      full-size _ (sym (k .kind-of .ensures) ∙ m .before .enum-told6 .given .1),
+      full-size _ (sym (m .kind-of3 .ensures) ∙ c .enum-told9 .given .1),
+    )
 
 returns : tie.Need-returns
 returns c =
@@ -62,38 +60,44 @@ returns-2 : tie.Need-returns-2
 returns-2 c =
     let m = c .before .before in
     let k = m .before .before .before in
-    sides-kinds _ _ Empty Unsound _ (sym (k .kind-of .ensures) ∙ m .before .enum-told2 .given .1) (sym (m .kind-of2 .ensures) ∙ c .enum-told3 .given .1) refl
+    sides-kinds _ _ Empty Unsound _ (sym (k .kind-of .ensures) ∙ m .before .enum-told2 .given .1)
+    (sym (m .kind-of2 .ensures) ∙ c .enum-told3 .given .1) refl
 
 returns-3 : tie.Need-returns-3
 returns-3 c =
     let m = c .before .before in
     let k = m .before .before .before in
-    sides-kinds _ _ Empty Empty _ (sym (k .kind-of .ensures) ∙ m .before .enum-told2 .given .1) (sym (m .kind-of2 .ensures) ∙ c .enum-told4 .given .1) refl
+    sides-kinds _ _ Empty Empty _ (sym (k .kind-of .ensures) ∙ m .before .enum-told2 .given .1)
+    (sym (m .kind-of2 .ensures) ∙ c .enum-told4 .given .1) refl
 
 returns-4 : tie.Need-returns-4
 returns-4 c =
     let m = c .before .before in
     let k = m .before .before .before in
-    sides-kinds _ _ Empty Full _ (sym (k .kind-of .ensures) ∙ m .before .enum-told2 .given .1) (sym (m .kind-of2 .ensures) ∙ c .enum-told5 .given .1) refl
+    sides-kinds _ _ Empty Full _ (sym (k .kind-of .ensures) ∙ m .before .enum-told2 .given .1)
+    (sym (m .kind-of2 .ensures) ∙ c .enum-told5 .given .1) refl
 
 returns-5 : tie.Need-returns-5
 returns-5 c =
     let m = c .before .before in
     let k = m .before .before .before in
-    sides-kinds _ _ Full Unsound _ (sym (k .kind-of .ensures) ∙ m .before .enum-told6 .given .1) (sym (m .kind-of3 .ensures) ∙ c .enum-told7 .given .1) refl
+    sides-kinds _ _ Full Unsound _ (sym (k .kind-of .ensures) ∙ m .before .enum-told6 .given .1)
+    (sym (m .kind-of3 .ensures) ∙ c .enum-told7 .given .1) refl
 
 returns-6 : tie.Need-returns-6
 returns-6 c =
     let m = c .before .before in
     let k = m .before .before .before in
-    sides-kinds _ _ Full Empty _ (sym (k .kind-of .ensures) ∙ m .before .enum-told6 .given .1) (sym (m .kind-of3 .ensures) ∙ c .enum-told8 .given .1) refl
+    sides-kinds _ _ Full Empty _ (sym (k .kind-of .ensures) ∙ m .before .enum-told6 .given .1)
+    (sym (m .kind-of3 .ensures) ∙ c .enum-told8 .given .1) refl
 
 returns-7 : tie.Need-returns-7
 returns-7 c =
     let b = c .before in
     let m = b .before .before .before in
     let k = m .before .before .before in
-    sides-kinds _ _ Full Full true (sym (k .kind-of .ensures) ∙ m .before .enum-told6 .given .1) (sym (m .kind-of3 .ensures) ∙ b .before .enum-told9 .given .1)
+    sides-kinds _ _ Full Full true (sym (k .kind-of .ensures) ∙ m .before .enum-told6 .given .1)
+    (sym (m .kind-of3 .ensures) ∙ b .before .enum-told9 .given .1)
     (sym (b .below .ensures) ∙ c .if1 .taken)
 
 returns-8 : tie.Need-returns-8
@@ -101,7 +105,8 @@ returns-8 c =
     let b = c .before in
     let m = b .before .before .before in
     let k = m .before .before .before in
-    sides-kinds _ _ Full Full false (sym (k .kind-of .ensures) ∙ m .before .enum-told6 .given .1) (sym (m .kind-of3 .ensures) ∙ b .before .enum-told9 .given .1)
+    sides-kinds _ _ Full Full false (sym (k .kind-of .ensures) ∙ m .before .enum-told6 .given .1)
+    (sym (m .kind-of3 .ensures) ∙ b .before .enum-told9 .given .1)
     (sym (b .below .ensures) ∙ c .if1 .left)
 
 pub sides-of-spec : {M : Type 1} → statement M

@@ -1,7 +1,6 @@
 -- `unpack_code` meets its contract: the field's digits, where there is room for them. Assumes nothing.
-use mathlib.Core.Path.{_≡_, refl, sym, ap, _∙_}
-use mathlib.Core.List.{List}
-use Prim.Native.Nat.{ℕ, _<_, _≤_}
+use mathlib.Core.Path.{refl, ap, _∙_}
+use Prim.Native.Nat.{_<_, _≤_}
 use native.Mathlib.Omega.{arith}
 use lib.ListN.{length}
 use Rattle.answers.specs.declared.Answer.the-variants.{Accepted}
@@ -13,10 +12,6 @@ use Rattle.codes.proofs.CallLaws.{full-code, full-size, known-code, unp
 use borrow.Author.Needs.{needs}
 use Rattle.codes.proofs.unpack_code.Statement.{statement}
 use Rattle.codes.proofs.unpack_code.Tie as tie
-use Rattle.codes.proofs.unpack_code.Reads as reads
-use Rattle.codes.proofs.unpack_code.Lts as lts
-use Rattle.codes.proofs.spread.of_field.Reads as of-field-reads
-use Rattle.numbers.proofs.copy.Reads as copy-reads
 
 of-field-requires : tie.Need-of-field-requires
 of-field-requires c κs = full-size _ (c .before .before .pre)

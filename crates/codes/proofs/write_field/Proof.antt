@@ -1,4 +1,5 @@
--- `write_field` meets its contract. The loop's invariant: the packer is that of the first i digits, and the field is theirs. Assumes nothing.
+-- `write_field` meets its contract. The loop's invariant: the packer is that of the first i digits, and the field is theirs.
+-- Assumes nothing.
 use mathlib.Core.Path.{_≡_, refl, sym, ap, _∙_}
 use mathlib.Core.List.{List}
 use Prim.Native.Nat.{ℕ, _-_, _≤_}
@@ -12,15 +13,13 @@ use Rattle.codes.proofs.PackerLaws.{pushes, pushes-nil}
 use Rattle.codes.proofs.WriteLaws.{field-over, field-none, next-pushable, next-pushes, next-field}
 use Rattle.codes.proofs.write_field.Statement.{statement}
 use Rattle.codes.proofs.write_field.Tie as tie
-use Rattle.codes.proofs.write_field.Reads as reads
-use Rattle.codes.proofs.write_field.Lts as lts
-use Rattle.codes.proofs.packer.Packer.new.Reads as new-reads
-use Rattle.codes.proofs.packer.Packer.push.Reads as push-reads
-use Rattle.numbers.proofs.clear.Reads as clear-reads
 
 abbrev Inv-loop : tie.InvT-loop
 Inv-loop field₀ digits packer₀ i₀ field packer i =
-    (i ≤ length digits) × (packer ≡ pushes (take i digits)) × (field ≡ put field₀ 0 (fieldOf (take i digits))) × (length field ≡ length field₀)
+    (i ≤ length digits)
+    × (packer ≡ pushes (take i digits))
+    × (field ≡ put field₀ 0 (fieldOf (take i digits)))
+    × (length field ≡ length field₀)
 
 abbrev μ-loop : tie.MeasureT-loop
 μ-loop field₀ digits packer₀ i₀ field packer i = length digits - i

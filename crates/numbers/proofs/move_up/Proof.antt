@@ -1,6 +1,6 @@
 -- `numbers::move_up` meets its contract. The loop's invariant: the run's elements from k on stand in their place. Assumes nothing.
 use mathlib.Core.Path.{_≡_, refl, sym}
-use Prim.Native.Nat.{_+_, _-_, _≤_}
+use Prim.Native.Nat.{_+_, _≤_}
 use native.Mathlib.Nat.{add-zero}
 use native.Mathlib.Omega.{arith}
 use lib.ListN.{length, take, drop, length-set}

@@ -4,11 +4,6 @@ use lib.ListN.{length-take}
 use borrow.Author.Needs.{needs}
 use Rattle.vectors.proofs.code.Statement.{statement}
 use Rattle.vectors.proofs.code.Tie as tie
-use Rattle.vectors.proofs.code.Reads as reads
-use Rattle.vectors.proofs.code.Lts as lts
-use Rattle.codes.proofs.spread.Code.unpack.Reads as unpack-reads
-use Rattle.vectors.proofs.print_digits.Reads as print-digits-reads
-use Rattle.vectors.proofs.text.Reads as text-reads
 
 slice-aggregate-text : tie.Need-slice-aggregate-text
 slice-aggregate-text c = search needs

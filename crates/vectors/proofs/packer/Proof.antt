@@ -2,7 +2,6 @@
 use borrow.Author.Needs.{needs}
 use native.Mathlib.Omega.{arith}
 use mathlib.Core.Path.{refl}
-use Rattle.codes.specs.Packer.{Pushable}
 use Rattle.codes.proofs.PackerLaws.{open-new, open-of}
 use Rattle.vectors.proofs.packer.Statement.{statement}
 use Rattle.vectors.proofs.packer.Tie as tie
@@ -16,7 +15,8 @@ byte-after-requires-2 c κs =
 
 byte-after-requires-3 : tie.Need-byte-after-requires-3
 byte-after-requires-3 c κs =
-    record { small = omega arith; room = omega arith; opened = open-of _ 2 refl (omega (arith, c .byte-after2 .ensures, c .before .byte-after .ensures)) }
+    let e = c .before .byte-after .ensures in
+    record { small = omega arith; room = omega arith; opened = open-of _ 2 refl (omega (arith, c .byte-after2 .ensures)) }
 
 slice-aggregate-text : tie.Need-slice-aggregate-text
 slice-aggregate-text c = search needs

@@ -1,5 +1,4 @@
 -- `run` meets its contract. The loop's invariant: n bytes at least, none past the end. Assumes nothing.
-use borrow.Author.Needs.{needs}
 use native.Mathlib.Omega.{arith}
 use Prim.Native.Nat.{_+_, _-_, _≤_, _<_}
 use lib.ListN.{length}

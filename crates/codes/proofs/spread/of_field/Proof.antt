@@ -1,20 +1,15 @@
 -- `of_field` meets its contract. The loop's invariant: the digits so far are the field's first i, and with what the rest leads
 -- with they are what the field leads with. Assumes nothing.
-use mathlib.Core.Path.{_≡_, refl, sym, _∙_}
+use mathlib.Core.Path.{refl, sym, _∙_}
 use Prim.Native.Nat.{_-_, _≤_}
 use native.Mathlib.Omega.{arith}
-use lib.ListN.{length, take, length-take}
+use lib.ListN.{take, length-take}
 use borrow.Author.Needs.{needs}
 use Rattle.codes.specs.Field.{spread}
 use Rattle.codes.specs.Spread.{Held}
 use Rattle.codes.proofs.SpreadLaws.{held-is, held-next, spread-length, Led, led-next, led-zero, led-all}
 use Rattle.codes.proofs.spread.of_field.Statement.{statement}
 use Rattle.codes.proofs.spread.of_field.Tie as tie
-use Rattle.codes.proofs.spread.of_field.Reads as reads
-use Rattle.codes.proofs.spread.of_field.Lts as lts
-use Rattle.codes.proofs.spread.Code.none.Reads as none-reads
-use Rattle.codes.proofs.spread.Code.with_last.Reads as with-last-reads
-use Rattle.codes.proofs.spread.slot.Reads as slot-reads
 
 abbrev Inv-loop : tie.InvT-loop
 Inv-loop field x₀ i₀ x i = (i ≤ 128) × Held x (take i (spread field)) × Led (spread field) i

@@ -5,8 +5,6 @@ use Rattle.codes.proofs.SpreadLaws.{slot-spread}
 use borrow.Author.Needs.{needs}
 use Rattle.codes.proofs.spread.slot.Statement.{statement}
 use Rattle.codes.proofs.spread.slot.Tie as tie
-use Rattle.codes.proofs.spread.slot.Reads as reads
-use Rattle.codes.proofs.spread.slot.Lts as lts
 
 shared-slice-read-byte : tie.Need-shared-slice-read-byte
 shared-slice-read-byte c = search needs
@@ -21,7 +19,9 @@ returns-3 : tie.Need-returns-3
 returns-3 c = slot-spread (c .before .before .args .field .now) _ 2 (omega arith) (c .match .keys3)
 
 returns-4 : tie.Need-returns-4
-returns-4 c = slot-spread (c .before .before .args .field .now) _ 3 (omega arith) (last-of-four _ (c .match .rest .0 .0 .1) (c .match .rest .0 .1) (c .match .rest .1))
+returns-4 c =
+    slot-spread (c .before .before .args .field .now) _ 3 (omega arith)
+    (last-of-four _ (c .match .rest .0 .0 .1) (c .match .rest .0 .1) (c .match .rest .1))
 
 pub slot-spec : {M : Type 1} → statement M
 slot-spec = tie.close (tie.spec shared-slice-read-byte returns returns-2 returns-3 returns-4)

@@ -6,11 +6,6 @@ use Rattle.codes.proofs.SpreadLaws.{whole, held-step}
 use borrow.Author.Needs.{needs}
 use Rattle.codes.proofs.spread.step.Statement.{statement}
 use Rattle.codes.proofs.spread.step.Tie as tie
-use Rattle.codes.proofs.spread.step.Reads as reads
-use Rattle.codes.proofs.spread.step.Lts as lts
-use Rattle.codes.proofs.spread.Code.lowered.Reads as lowered-reads
-use Rattle.codes.proofs.spread.Code.raised.Reads as raised-reads
-use Rattle.codes.proofs.spread.Code.with_last.Reads as with-last-reads
 
 lowered-requires : tie.Need-lowered-requires
 lowered-requires c κs = search needs

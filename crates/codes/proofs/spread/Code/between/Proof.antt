@@ -5,10 +5,6 @@ use Rattle.codes.proofs.CallLaws.{between-no-side, between-disordered}
 use borrow.Author.Needs.{needs}
 use Rattle.codes.proofs.spread.Code.between.Statement.{statement}
 use Rattle.codes.proofs.spread.Code.between.Tie as tie
-use Rattle.codes.proofs.spread.Code.between.Reads as reads
-use Rattle.codes.proofs.spread.Code.between.Lts as lts
-use Rattle.codes.proofs.between_sides.Reads as between-sides-reads
-use Rattle.codes.proofs.sides_of.Reads as sides-of-reads
 
 sides-of-requires : tie.Need-sides-of-requires
 sides-of-requires c κs = search needs
@@ -29,14 +25,15 @@ returns : tie.Need-returns
 returns c =
     let k = c .before .before in
     let a = k .before .before .before .before .args in
-    gives _ _ _ _ _ (between-no-side (a .left .now) (a .right .now) (a .field .now) (sym (k .sides-of .ensures) ∙ c .enum-told .given .1)) refl refl
+    let e = sym (k .sides-of .ensures) ∙ c .enum-told .given .1 in
+    gives _ _ _ _ _ (between-no-side (a .left .now) (a .right .now) (a .field .now) e) refl refl
 
 returns-2 : tie.Need-returns-2
 returns-2 c =
     let k = c .before .before in
     let a = k .before .before .before .before .args in
-    gives _ _ _ _ _ (between-disordered (a .left .now) (a .right .now) (a .field .now) (sym (k .sides-of .ensures) ∙ c .enum-told2 .given .1)) refl
-    refl
+    let e = sym (k .sides-of .ensures) ∙ c .enum-told2 .given .1 in
+    gives _ _ _ _ _ (between-disordered (a .left .now) (a .right .now) (a .field .now) e) refl refl
 
 same-length : tie.Need-same-length
 same-length c = search needs

@@ -1,8 +1,8 @@
 -- `Code::lowered` meets its contract: the last digit taken off, and the digits that it is made put on. Assumes nothing.
-use mathlib.Core.Path.{_≡_, ap}
+use mathlib.Core.Path.{ap}
 use mathlib.Core.List.{[], _∷_}
 use native.Mathlib.Omega.{arith}
-use lib.ListN.{length, length-append, length-take}
+use lib.ListN.{length-append, length-take}
 use borrow.Author.Tests.{ne-eqb}
 use Rattle.digits.specs.Between.{lower}
 use Rattle.codes.specs.Spread.{digitsOf}
@@ -10,11 +10,6 @@ use Rattle.codes.proofs.SpreadLaws.{whole, held-two, held-remade}
 use borrow.Author.Needs.{needs}
 use Rattle.codes.proofs.spread.Code.lowered.Statement.{statement}
 use Rattle.codes.proofs.spread.Code.lowered.Tie as tie
-use Rattle.codes.proofs.spread.Code.lowered.Reads as reads
-use Rattle.codes.proofs.spread.Code.lowered.Lts as lts
-use Rattle.codes.proofs.spread.Code.last.Reads as last-reads
-use Rattle.codes.proofs.spread.Code.with_last.Reads as with-last-reads
-use Rattle.codes.proofs.spread.Code.without_last.Reads as without-last-reads
 
 last-requires : tie.Need-last-requires
 last-requires c κs = search needs
@@ -32,8 +27,9 @@ returns : tie.Need-returns
 returns c =
     let s = c .before .before .before in
     let a = s .before .before in
-    held-remade lower (a .args .self) (s .without-last .result) _ (s .before .last .result) (1 ∷ 2 ∷ []) (whole (a .args .self) _ (a .good .0)) (a .pre)
-    (s .before .last .ensures) (s .without-last .ensures) (ap lower (c .before .before .if1 .taken))
+    held-remade lower (a .args .self) (s .without-last .result) _ (s .before .last .result) (1 ∷ 2 ∷ [])
+    (whole (a .args .self) _ (a .good .0)) (a .pre) (s .before .last .ensures) (s .without-last .ensures)
+    (ap lower (c .before .before .if1 .taken))
     (held-two _ _ (digitsOf (s .without-last .result)) 1 2 (c .before .with-last .ensures) (c .with-last2 .ensures))
 
 with-last-requires-3 : tie.Need-with-last-requires-3
@@ -43,8 +39,9 @@ returns-2 : tie.Need-returns-2
 returns-2 c =
     let s = c .before .before in
     let a = s .before .before in
-    held-remade lower (a .args .self) (s .without-last .result) _ (s .before .last .result) (2 ∷ []) (whole (a .args .self) _ (a .good .0)) (a .pre)
-    (s .before .last .ensures) (s .without-last .ensures) (simp (ne-eqb (s .before .last .result) 2 (c .before .if1 .left))) (c .with-last3 .ensures)
+    held-remade lower (a .args .self) (s .without-last .result) _ (s .before .last .result) (2 ∷ [])
+    (whole (a .args .self) _ (a .good .0)) (a .pre) (s .before .last .ensures) (s .without-last .ensures)
+    (simp (ne-eqb (s .before .last .result) 2 (c .before .if1 .left))) (c .with-last3 .ensures)
 
 pub lowered-spec : {M : Type 1} → statement M
 lowered-spec =

@@ -7,10 +7,6 @@ use Rattle.codes.proofs.CallLaws.{pack-no-code, pack-short, pack-writte
 use borrow.Author.Needs.{needs}
 use Rattle.codes.proofs.spread.Code.pack.Statement.{statement}
 use Rattle.codes.proofs.spread.Code.pack.Tie as tie
-use Rattle.codes.proofs.spread.Code.pack.Reads as reads
-use Rattle.codes.proofs.spread.Code.pack.Lts as lts
-use Rattle.codes.proofs.is_code.Reads as is-code-reads
-use Rattle.codes.proofs.write_field.Reads as write-field-reads
 
 is-code-requires : tie.Need-is-code-requires
 is-code-requires c κs = search needs
@@ -19,7 +15,8 @@ returns : tie.Need-returns
 returns c =
     let i = c .before .before in
     let a = i .before .before .before .args in
-    gives _ _ _ _ _ (pack-short (a .digits .now) (a .field .now) (sym (i .is-code .ensures) ∙ c .before .if1 .taken) (c .if2 .taken)) refl refl
+    let e = sym (i .is-code .ensures) ∙ c .before .if1 .taken in
+    gives _ _ _ _ _ (pack-short (a .digits .now) (a .field .now) e (c .if2 .taken)) refl refl
 
 write-field-requires : tie.Need-write-field-requires
 write-field-requires c κs =
@@ -35,8 +32,8 @@ returns-2 c =
     let w = c .before .before in
     let i = w .before .before .before .before in
     let a = i .before .before .before .args in
-    gives _ _ _ _ _
-    (pack-written (a .digits .now) (a .field .now) (sym (i .is-code .ensures) ∙ w .before .before .before .if1 .taken) (w .before .before .if2 .left))
+    let e = sym (i .is-code .ensures) ∙ w .before .before .before .if1 .taken in
+    gives _ _ _ _ _ (pack-written (a .digits .now) (a .field .now) e (w .before .before .if2 .left))
     refl (w .write-field .ensures)
 
 returns-3 : tie.Need-returns-3

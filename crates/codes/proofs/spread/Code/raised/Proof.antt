@@ -1,8 +1,8 @@
 -- `Code::raised` meets its contract: the last digit taken off, and the digits that it is made put on. Assumes nothing.
-use mathlib.Core.Path.{_≡_, ap}
+use mathlib.Core.Path.{ap}
 use mathlib.Core.List.{[], _∷_}
 use native.Mathlib.Omega.{arith}
-use lib.ListN.{length, length-append, length-take}
+use lib.ListN.{length-append, length-take}
 use borrow.Author.Tests.{ne-eqb}
 use Rattle.digits.specs.Between.{raise}
 use Rattle.codes.specs.Spread.{digitsOf}
@@ -10,11 +10,6 @@ use Rattle.codes.proofs.SpreadLaws.{whole, held-two, held-remade}
 use borrow.Author.Needs.{needs}
 use Rattle.codes.proofs.spread.Code.raised.Statement.{statement}
 use Rattle.codes.proofs.spread.Code.raised.Tie as tie
-use Rattle.codes.proofs.spread.Code.raised.Reads as reads
-use Rattle.codes.proofs.spread.Code.raised.Lts as lts
-use Rattle.codes.proofs.spread.Code.last.Reads as last-reads
-use Rattle.codes.proofs.spread.Code.with_last.Reads as with-last-reads
-use Rattle.codes.proofs.spread.Code.without_last.Reads as without-last-reads
 
 last-requires : tie.Need-last-requires
 last-requires c κs = search needs
@@ -29,8 +24,9 @@ returns : tie.Need-returns
 returns c =
     let s = c .before .before in
     let a = s .before .before in
-    held-remade raise (a .args .self) (s .without-last .result) _ (s .before .last .result) (3 ∷ []) (whole (a .args .self) _ (a .good .0)) (a .pre)
-    (s .before .last .ensures) (s .without-last .ensures) (ap raise (c .before .if1 .taken)) (c .with-last .ensures)
+    held-remade raise (a .args .self) (s .without-last .result) _ (s .before .last .result) (3 ∷ [])
+    (whole (a .args .self) _ (a .good .0)) (a .pre) (s .before .last .ensures) (s .without-last .ensures)
+    (ap raise (c .before .if1 .taken)) (c .with-last .ensures)
 
 with-last-requires-2 : tie.Need-with-last-requires-2
 with-last-requires-2 c κs = omega arith
@@ -42,8 +38,9 @@ returns-2 : tie.Need-returns-2
 returns-2 c =
     let s = c .before .before .before in
     let a = s .before .before in
-    held-remade raise (a .args .self) (s .without-last .result) _ (s .before .last .result) (3 ∷ 2 ∷ []) (whole (a .args .self) _ (a .good .0)) (a .pre)
-    (s .before .last .ensures) (s .without-last .ensures) (simp (ne-eqb (s .before .last .result) 2 (c .before .before .if1 .left)))
+    held-remade raise (a .args .self) (s .without-last .result) _ (s .before .last .result) (3 ∷ 2 ∷ [])
+    (whole (a .args .self) _ (a .good .0)) (a .pre) (s .before .last .ensures) (s .without-last .ensures)
+    (simp (ne-eqb (s .before .last .result) 2 (c .before .before .if1 .left)))
     (held-two _ _ (digitsOf (s .without-last .result)) 3 2 (c .before .with-last2 .ensures) (c .with-last3 .ensures))
 
 pub raised-spec : {M : Type 1} → statement M

@@ -5,10 +5,6 @@ use Rattle.codes.proofs.CallLaws.{unpack-empty, unpack-unsound}
 use borrow.Author.Needs.{needs}
 use Rattle.codes.proofs.spread.Code.unpack.Statement.{statement}
 use Rattle.codes.proofs.spread.Code.unpack.Tie as tie
-use Rattle.codes.proofs.spread.Code.unpack.Reads as reads
-use Rattle.codes.proofs.spread.Code.unpack.Lts as lts
-use Rattle.codes.proofs.field.kind_of.Reads as kind-of-reads
-use Rattle.codes.proofs.unpack_code.Reads as unpack-code-reads
 
 kind-of-requires : tie.Need-kind-of-requires
 kind-of-requires c κs = search needs

@@ -6,8 +6,6 @@ use Rattle.codes.proofs.SpreadLaws.{whole, held-store}
 use borrow.Author.Needs.{needs}
 use Rattle.codes.proofs.spread.Code.with_last.Statement.{statement}
 use Rattle.codes.proofs.spread.Code.with_last.Tie as tie
-use Rattle.codes.proofs.spread.Code.with_last.Reads as reads
-use Rattle.codes.proofs.spread.Code.with_last.Lts as lts
 
 element-write-self : tie.Need-element-write-self
 element-write-self c = search needs
