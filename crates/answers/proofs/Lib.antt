@@ -1,2 +1,3 @@
--- Laws of outcomes.
+-- Laws of outcomes and of signed answers.
 pub mod OutcomeLaws
+pub mod SignedLaws

@@ -1,6 +1,11 @@
 // What a call answers: a number where it is accepted, or why it is refused.
 ghost use mathlib.Core.Path.{_≡_};
+ghost use Prim.Native.Nat.{_≤_};
 ghost use Rattle.answers.specs.Number.{numberOf, rowOf};
+ghost use Rattle.answers.specs.Signed.{refusedAs};
+
+// Above every refusal number of the host program.
+const REFUSED: i32 = -100000;
 
 // A case for each reason of 01's table of refusals; a row of a table stands with the cases that answer one.
 pub enum Refusal {
@@ -29,6 +34,7 @@ impl Refusal {
     // The number of 01's table.
     pub fn number(self) -> u32
         ensures number { λ r. ⌜ r ≡ numberOf self ⌝ }
+        ensures small { λ r. ⌜ r ≤ 13 ⌝ }
     {
         match self {
             Refusal::TableSize => 1,
@@ -46,6 +52,13 @@ impl Refusal {
             Refusal::NoCode => 12,
             Refusal::Order => 13,
         }
+    }
+
+    // The same for the host program: -(100,000 + the number).
+    pub fn signed(self) -> i32
+        ensures signed { λ r. ⌜ r ≡ refusedAs (numberOf self) ⌝ }
+    {
+        REFUSED - self.number() as i32
     }
 
     // The row that is answered with it, from 0; 0 where none is.

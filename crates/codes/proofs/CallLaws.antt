@@ -132,7 +132,7 @@ sidesAs Full Empty below = Ordered
 sidesAs Full Full below = cond below Ordered Disordered
 
 -- the order of two full fields is that of their codes
-full-below : (left right : List ℕ) (x y : Digits) → read left ≡ code x → read right ≡ code y → below? left right ≡ below? x y
+pub full-below : (left right : List ℕ) (x y : Digits) → read left ≡ code x → read right ≡ code y → below? left right ≡ below? x y
 full-below left right x y p q =
     let a = read-code left x p in
     let b = read-code right y q in
