@@ -1,7 +1,7 @@
 -- 01, Refusal numbers, for the host program: answers as signed numbers.
 -- Assumes nothing.
 use mathlib.Core.Bool.{Bool, true, false}
-use Prim.Native.Nat.{ℕ, _+_}
+use Prim.Native.Nat.{ℕ, _+_, _^_, _<_}
 use lib.IntN.{ℤ, pos, negsuc}
 use Rattle.answers.specs.declared.Answer.{Answer}
 use Rattle.answers.specs.declared.Answer.the-variants.{Accepted, Refused}
@@ -20,3 +20,8 @@ yesNo false = pos 0
 abbrev pub signedOf : Answer → ℤ
 signedOf (Accepted n) = pos n
 signedOf (Refused refusal) = refusedAs (numberOf refusal)
+
+-- an accepted number that a signed number of 32 bits holds
+abbrev pub Signable : Answer → Type 0
+Signable (Accepted n) = n < 2 ^ 31
+Signable (Refused refusal) = Unit {0}

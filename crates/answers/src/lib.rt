@@ -2,7 +2,7 @@
 ghost use mathlib.Core.Path.{_≡_};
 ghost use Prim.Native.Nat.{_≤_};
 ghost use Rattle.answers.specs.Number.{numberOf, rowOf};
-ghost use Rattle.answers.specs.Signed.{refusedAs};
+ghost use Rattle.answers.specs.Signed.{refusedAs, signedOf, Signable};
 
 // Above every refusal number of the host program.
 const REFUSED: i32 = -100000;
@@ -80,6 +80,19 @@ impl Refusal {
             Refusal::Label => 0,
             Refusal::NoCode => 0,
             Refusal::Order => 0,
+        }
+    }
+}
+
+impl Answer {
+    // An accepted number as it is, a refusal as -(100,000 + its number).
+    pub fn signed(self) -> i32
+        requires small { ⌜ Signable self ⌝ }
+        ensures signed { λ r. ⌜ r ≡ signedOf self ⌝ }
+    {
+        match self {
+            Answer::Accepted(n) => n as i32,
+            Answer::Refused(refusal) => refusal.signed(),
         }
     }
 }

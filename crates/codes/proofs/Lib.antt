@@ -9,3 +9,4 @@ pub mod SpreadLaws
 pub mod PackerLaws
 pub mod WriteLaws
 pub mod CallLaws
+pub mod SignableLaws

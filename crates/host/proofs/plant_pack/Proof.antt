@@ -1,0 +1,25 @@
+-- `plant_pack` meets its contract: the call's answer as a number, and the call's bytes. Assumes nothing.
+use mathlib.Core.Path.{sym, ap, _∙_, subst}
+use Rattle.answers.specs.Signed.{signedOf, Signable}
+use Rattle.answers.proofs.SignedLaws.{read-back}
+use Rattle.codes.proofs.SignableLaws.{pack-signable}
+use borrow.Author.Needs.{needs}
+use Rattle.host.proofs.plant_pack.Statement.{statement}
+use Rattle.host.proofs.plant_pack.Tie as tie
+
+pack-requires : tie.Need-pack-requires
+pack-requires c κs = search needs
+
+signed-requires : tie.Need-signed-requires
+signed-requires c κs = subst Signable (sym (c .before .before .pack .ensures .0)) (pack-signable _ _)
+
+same-length : tie.Need-same-length
+same-length c = search needs
+
+returns : tie.Need-returns
+returns c =
+    let p = c .before .before .before .pack in
+    (read-back _ (c .signed .ok) ∙ c .signed .ensures ∙ ap signedOf (p .ensures .0), p .ensures .1)
+
+pub plant-pack-spec : {M : Type 1} → statement M
+plant-pack-spec = tie.close (tie.spec pack-requires signed-requires same-length returns)

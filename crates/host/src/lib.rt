@@ -1,0 +1,58 @@
+// Every public call for a host program in C, as include/plant.h declares it. Each function is thin: it turns an answer into a number.
+ghost use mathlib.Core.Path.{_≡_};
+ghost use Rattle.answers.specs.Signed.{signedOf};
+ghost use Rattle.codes.specs.Calls.{packOutcome, unpackOutcome, betweenOutcome};
+ghost use Rattle.labels.specs.Questions.{orderAnswer, aboveAnswer, parentAnswer, siblingAnswer};
+use codes::Code;
+
+#[no_mangle]
+pub extern "C" fn plant_order(u: &[u8], v: &[u8]) -> i32
+    ensures answer { λ r. ⌜ r ≡ orderAnswer (now (u .entry)) (now (v .entry)) ⌝ }
+{
+    labels::order(u, v)
+}
+
+#[no_mangle]
+pub extern "C" fn plant_above(u: &[u8], v: &[u8]) -> i32
+    ensures answer { λ r. ⌜ r ≡ aboveAnswer (now (u .entry)) (now (v .entry)) ⌝ }
+{
+    labels::above(u, v)
+}
+
+#[no_mangle]
+pub extern "C" fn plant_parent(u: &[u8], v: &[u8]) -> i32
+    ensures answer { λ r. ⌜ r ≡ parentAnswer (now (u .entry)) (now (v .entry)) ⌝ }
+{
+    labels::parent(u, v)
+}
+
+#[no_mangle]
+pub extern "C" fn plant_sibling(u: &[u8], v: &[u8]) -> i32
+    ensures answer { λ r. ⌜ r ≡ siblingAnswer (now (u .entry)) (now (v .entry)) ⌝ }
+{
+    labels::sibling(u, v)
+}
+
+#[no_mangle]
+pub extern "C" fn plant_pack(digits: &[u8], field: &mut [u8]) -> i32
+    ensures answer { λ r. ⌜ r ≡ signedOf (packOutcome (now (digits .entry)) (now (field .entry)) .answer) ⌝ }
+    ensures bytes { λ _. ⌜ now (field .exit) ≡ packOutcome (now (digits .entry)) (now (field .entry)) .bytes ⌝ }
+{
+    Code::pack(digits, field).signed()
+}
+
+#[no_mangle]
+pub extern "C" fn plant_unpack(field: &[u8], digits: &mut [u8]) -> i32
+    ensures answer { λ r. ⌜ r ≡ signedOf (unpackOutcome (now (field .entry)) (now (digits .entry)) .answer) ⌝ }
+    ensures bytes { λ _. ⌜ now (digits .exit) ≡ unpackOutcome (now (field .entry)) (now (digits .entry)) .bytes ⌝ }
+{
+    Code::unpack(field, digits).signed()
+}
+
+#[no_mangle]
+pub extern "C" fn plant_between(left: &[u8], right: &[u8], field: &mut [u8]) -> i32
+    ensures answer { λ r. ⌜ r ≡ signedOf (betweenOutcome (now (left .entry)) (now (right .entry)) (now (field .entry)) .answer) ⌝ }
+    ensures bytes { λ _. ⌜ now (field .exit) ≡ betweenOutcome (now (left .entry)) (now (right .entry)) (now (field .entry)) .bytes ⌝ }
+{
+    Code::between(left, right, field).signed()
+}
