@@ -1,0 +1,125 @@
+/* plant.h: the plant register's core, as called from C or C++.
+ *
+ * An entry of the register carries a label of three packed codes: its start, its end and its parent's start. Which entry
+ * stands before, above, directly above or beside which is read off two labels. The functions behind these calls are
+ * proved to meet their contracts; what a caller has to see to stands under the word `caller`.
+ *
+ * Every buffer belongs to the caller: nothing is allocated, and no pointer is kept after a call. No state is kept either,
+ * so calls may run in several threads as long as no thread writes to a buffer that is lent to a running call.
+ *
+ * Linking: cc program.c -Iinclude target/staticlib/libhost.a
+ */
+#ifndef PLANT_H
+#define PLANT_H
+
+#include <stddef.h>
+#include <stdint.h>
+
+#ifdef __cplusplus
+extern "C" {
+#endif
+
+/* Code: 1 to 127 digits, each 1, 2 or 3, the last 2 or 3. Unpacked, one byte a digit, of value 1, 2 or 3 (not '1').
+ * Field: a packed code, 32 bytes. Two bits a digit, the first digit in the highest bits of the first byte, then zero bits
+ * to the end. The fill is part of the field: a code cut after its last digit is no field. 32 zero bytes: the empty field.
+ * Label: three fields, 96 bytes: start at 0, end at 32, parent start at 64. Sound when start and end are codes, start is
+ * below end, and the parent start is empty (the root's) or a code below start.
+ * Below: the first differing digit decides; a proper prefix is below the longer code. */
+#define PLANT_LONGEST 127 /* digits of the longest code */
+#define PLANT_FIELD 32    /* bytes of a field */
+#define PLANT_LABEL 96    /* bytes of a label */
+
+/* A refused call answers one of these and writes nothing. Every refusal is below -100000, every other answer above it;
+ * a test for "negative" will not do, since plant_order answers -1. Under `refuses` they stand in the order they are tried. */
+#define PLANT_REFUSED(n) (-(100000 + (n)))
+#define PLANT_TABLE_SIZE PLANT_REFUSED(1)   /* table of 0 or more than 4,096 rows, or not a whole number of rows */
+#define PLANT_ROW_DEPTH PLANT_REFUSED(2)    /* a depth breaks the table rule */
+#define PLANT_IDENTITY PLANT_REFUSED(3)     /* identity 0 or already used */
+#define PLANT_ROOM PLANT_REFUSED(4)         /* lent buffer short of what the result takes, or a register of 4,096 entries */
+#define PLANT_NO_REGISTER PLANT_REFUSED(5)  /* not a sound register */
+#define PLANT_NO_TARGET PLANT_REFUSED(6)    /* target not present */
+#define PLANT_ROOT PLANT_REFUSED(7)         /* before, after or delete aimed at the root */
+#define PLANT_CODE_LENGTH PLANT_REFUSED(8)  /* a needed code would pass 127 digits */
+#define PLANT_CHILDREN PLANT_REFUSED(9)     /* deletion of an entry with children */
+#define PLANT_DEPTH PLANT_REFUSED(10)       /* an entry's depth would pass 63 */
+#define PLANT_NO_LABEL PLANT_REFUSED(11)    /* not a sound label, or not 96 bytes */
+#define PLANT_NO_CODE PLANT_REFUSED(12)     /* not a code: wrong digits, or a field not of 32 bytes or unsound */
+#define PLANT_NOT_BELOW PLANT_REFUSED(13)   /* both sides are codes and left is not below right */
+
+/* Questions on two labels. The answer is fixed for any two sound labels; it speaks of a tree when both stand in one register. */
+
+/* Which of u and v comes first in document order? An ancestor comes before its descendants.
+ * takes     u, v: a label each; read only, kept no longer than the call, may overlap or be the same
+ * answers   -1 u before v, 0 equal starts, 1 u after v
+ * refuses   PLANT_NO_LABEL for either label; no other
+ * writes    nothing
+ * caller    u and v are not NULL, even for length 0, and point to u_len and v_len readable bytes
+ * proved    labels::order, crates/labels/src/lib.rt */
+int32_t plant_order(const uint8_t *u, size_t u_len, const uint8_t *v, size_t v_len);
+
+/* Does u lie above v: is u an ancestor of v?
+ * takes     u, v: a label each, the upper one first; read only, kept no longer than the call, may overlap or be the same
+ * answers   1 yes: u's start is below v's start and v's end below u's end; 0 no
+ * refuses   PLANT_NO_LABEL for either label; no other
+ * writes    nothing
+ * caller    u and v are not NULL, even for length 0, and point to u_len and v_len readable bytes
+ * proved    labels::above, crates/labels/src/lib.rt */
+int32_t plant_above(const uint8_t *u, size_t u_len, const uint8_t *v, size_t v_len);
+
+/* Is u the parent of v?
+ * takes     u, v: a label each, the upper one first; read only, kept no longer than the call, may overlap or be the same
+ * answers   1 yes: v's parent start is not empty and equals u's start; 0 no
+ * refuses   PLANT_NO_LABEL for either label; no other
+ * writes    nothing
+ * caller    u and v are not NULL, even for length 0, and point to u_len and v_len readable bytes
+ * proved    labels::parent, crates/labels/src/lib.rt */
+int32_t plant_parent(const uint8_t *u, size_t u_len, const uint8_t *v, size_t v_len);
+
+/* Are u and v siblings: two children of one parent? No entry is its own sibling.
+ * takes     u, v: a label each; read only, kept no longer than the call, may overlap or be the same
+ * answers   1 yes: both parent starts are not empty and equal, and the starts differ; 0 no
+ * refuses   PLANT_NO_LABEL for either label; no other
+ * writes    nothing
+ * caller    u and v are not NULL, even for length 0, and point to u_len and v_len readable bytes
+ * proved    labels::sibling, crates/labels/src/lib.rt */
+int32_t plant_sibling(const uint8_t *u, size_t u_len, const uint8_t *v, size_t v_len);
+
+/* Codes and their fields. */
+
+/* Packs the digits of a code into a field.
+ * takes     digits: n digits, a byte each; read only, kept no longer than the call
+ * answers   n
+ * refuses   PLANT_NO_CODE if the digits are no code, PLANT_ROOM if len is below 32
+ * writes    the first 32 bytes of field: the digits, then zero bits; bytes past them are kept; refused, nothing
+ * caller    both pointers are not NULL, even for length 0; digits points to n readable bytes, field to len bytes that may be
+ *           read and written; field does not overlap digits
+ * proved    codes::Code::pack, crates/codes/src/lib.rt */
+int32_t plant_pack(const uint8_t *digits, size_t n, uint8_t *field, size_t len);
+
+/* Unpacks a field into the digits of its code.
+ * takes     field: 32 bytes that hold a code; read only, kept no longer than the call
+ * answers   the number of the code's digits
+ * refuses   PLANT_NO_CODE if len is not 32 or the field is empty or unsound, PLANT_ROOM if n is below the number of digits
+ * writes    the code's digits at the front of digits; bytes past them are kept; refused, nothing
+ * caller    both pointers are not NULL, even for length 0; field points to len readable bytes, digits to n bytes that may be
+ *           read and written; digits does not overlap field
+ * proved    codes::Code::unpack, crates/codes/src/lib.rt */
+int32_t plant_unpack(const uint8_t *field, size_t len, uint8_t *digits, size_t n);
+
+/* Makes the one code between two codes; either side may be open.
+ * takes     left, right: a field each, the empty field for an open side; read only, kept no longer than the call, may overlap
+ *           or be the same
+ * answers   the number of digits of the code made
+ * refuses   PLANT_NO_CODE if a side is not of 32 bytes or is unsound, PLANT_NOT_BELOW if both are codes and left is not below
+ *           right, PLANT_ROOM if len is below 32, PLANT_CODE_LENGTH if the code would pass 127 digits
+ * writes    the first 32 bytes of field: the code made, packed; bytes past them are kept; refused, nothing
+ * caller    no pointer is NULL, even for length 0; left and right point to l_len and r_len readable bytes, field to len bytes
+ *           that may be read and written; field overlaps neither left nor right
+ * proved    codes::Code::between, crates/codes/src/lib.rt */
+int32_t plant_between(const uint8_t *left, size_t l_len, const uint8_t *right, size_t r_len, uint8_t *field, size_t len);
+
+#ifdef __cplusplus
+}
+#endif
+
+#endif
