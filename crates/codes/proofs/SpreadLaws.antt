@@ -37,11 +37,13 @@ held-store d n digit h = record {
   count = simp length-append (let e = length-take-le n d (omega arith) in omega arith);
 }
 
--- the digits of a list, one more at a time
-pub held-next : (c b : Code) (x : Digits) (i digit : ℕ) → i < length x → digit ≡ getD x i 0 → Held b (take i x)
-    → Held c (digitsOf b ++ (digit ∷ [])) → Held c (take (i + 1) x)
-held-next c b x i digit h e k =
-    held-is c (digitsOf b ++ (digit ∷ [])) _ (rw (add-one, take-suc x i 0 h, k .digits, e) refl)
+-- the digits of a list stored one by one
+pub stored-next : (d x : List ℕ) (i digit : ℕ) → i < length d → i < length x → digit ≡ getD x i 0 → take i d ≡ take i x
+    → take (i + 1) (set d i digit) ≡ take (i + 1) x
+stored-next d x i digit h k e f = rw (add-one, take-suc-set d i digit h, take-suc x i 0 k, f, e) refl
+
+pub stored-all : (d x y : List ℕ) (i : ℕ) → i ≤ length x → take i d ≡ take i x → take i x ≡ y → Held (record { digits = d; count = i }) y
+stored-all d x y i h e f = record { digits = e ∙ f; count = sym (ap length (sym f) ∙ length-take-le i x h) }
 
 -- two digits, one after the other
 pub held-two : (c b : Code) (x : Digits) (i j : ℕ) → Held b (x ++ (i ∷ [])) → Held c (digitsOf b ++ (j ∷ [])) → Held c (x ++ (i ∷ j ∷ []))

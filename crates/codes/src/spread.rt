@@ -1,6 +1,6 @@
 // A code spread out as digits, by value, and the step between two such codes.
 ghost use mathlib.Core.Path.{_≡_};
-ghost use mathlib.Core.List.{[], _∷_, _++_};
+ghost use mathlib.Core.List.{_∷_, [], _++_};
 ghost use Prim.Native.Nat.{_-_, _*_, _<_, _≤_};
 ghost use lib.ListN.{length, getD};
 ghost use Rattle.digits.specs.Between.{between, remade, lower, raise};
@@ -19,15 +19,6 @@ impl Code {
     pub const LONGEST: usize = 127;
 
     pub const FIELD: usize = 32;
-
-    fn none() -> Self
-        ensures held { λ r. ⌜ Held r [] ⌝ }
-    {
-        Self {
-            digits: [0u8; Self::LONGEST + 1],
-            count: 0,
-        }
-    }
 
     // One digit more.
     fn with_last(mut self, digit: u8) -> Self
@@ -119,15 +110,15 @@ pub(crate) fn of_field(field: &[u8]) -> Code
     requires whole { ⌜ length (now field) ≡ fieldSize ⌝ }
     ensures held { λ r. ⌜ Held r (lead (spread (now (field .entry)))) ⌝ }
 {
-    let mut x = Code::none();
+    let mut digits = [0u8; Code::LONGEST + 1];
     let mut i = 0;
     while i < 4 * Code::FIELD {
         let digit = slot(field, i);
         if digit == 0 {
-            return x;
+            return Code { digits, count: i };
         }
-        x = x.with_last(digit);
+        digits[i] = digit;
         i += 1;
     }
-    x
+    Code { digits, count: i }
 }

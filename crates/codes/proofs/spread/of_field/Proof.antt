@@ -1,27 +1,24 @@
--- `of_field` meets its contract. The loop's invariant: the digits so far are the field's first i, and with what the rest leads
--- with they are what the field leads with. Assumes nothing.
-use mathlib.Core.Path.{refl, sym, _∙_}
+-- `of_field` meets its contract. The loop's invariant: the array begins with the field's first i digits, and with what the rest
+-- leads with they are what the field leads with. Assumes nothing.
+use mathlib.Core.Path.{_≡_, refl, sym, _∙_}
 use Prim.Native.Nat.{_-_, _≤_}
 use native.Mathlib.Omega.{arith}
-use lib.ListN.{take, length-take}
+use lib.ListN.{length, take, length-set}
 use borrow.Author.Needs.{needs}
 use Rattle.codes.specs.Field.{spread}
-use Rattle.codes.specs.Spread.{Held}
-use Rattle.codes.proofs.SpreadLaws.{held-is, held-next, spread-length, Led, led-next, led-zero, led-all}
+use Rattle.codes.proofs.SpreadLaws.{stored-next, stored-all, spread-length, Led, led-next, led-zero, led-all}
 use Rattle.codes.proofs.spread.of_field.Statement.{statement}
 use Rattle.codes.proofs.spread.of_field.Tie as tie
 
 abbrev Inv-loop : tie.InvT-loop
-Inv-loop field x₀ i₀ x i = (i ≤ 128) × Held x (take i (spread field)) × Led (spread field) i
+Inv-loop field digits₀ i₀ digits i =
+    (i ≤ 128) × (length digits ≡ 128) × (take i digits ≡ take i (spread field)) × Led (spread field) i
 
 abbrev μ-loop : tie.MeasureT-loop
-μ-loop field x₀ i₀ x i = 128 - i
-
-none-requires : tie.Need-none-requires Inv-loop μ-loop
-none-requires c κs = search needs
+μ-loop field digits₀ i₀ digits i = 128 - i
 
 loop-holds : tie.Need-loop-holds Inv-loop μ-loop
-loop-holds c = (omega arith, c .none .ensures, refl)
+loop-holds c = (omega arith, refl, refl, refl)
 
 mul-loop : tie.Need-mul-loop Inv-loop μ-loop
 mul-loop c = search needs
@@ -32,13 +29,13 @@ slot-requires c κs = omega arith
 returns : tie.Need-returns Inv-loop μ-loop
 returns c =
     let l = c .before .before .before in
-    let b = l .before .before .before .args .field .now in
-    let n = spread-length b in
-    held-is _ _ _
-    (led-zero (spread b) (l .loop .i) (omega arith) (sym (c .before .slot .ensures) ∙ c .if1 .taken) (l .loop .inv .2)) (l .loop .inv .1)
+    let x = spread (l .before .before .args .field .now) in
+    let n = spread-length (l .before .before .args .field .now) in
+    stored-all _ x _ (l .loop .i) (omega arith) (l .loop .inv .2)
+    (led-zero x (l .loop .i) (omega arith) (sym (c .before .slot .ensures) ∙ c .if1 .taken) (l .loop .inv .3))
 
-with-last-requires : tie.Need-with-last-requires Inv-loop μ-loop
-with-last-requires c κs = omega (arith, simp length-take at (c .before .before .before .loop .inv .1 .count))
+array-write-digits : tie.Need-array-write-digits Inv-loop μ-loop
+array-write-digits c = omega arith
 
 add-i : tie.Need-add-i Inv-loop μ-loop
 add-i c = omega arith
@@ -48,20 +45,22 @@ loop-less c = omega arith
 
 loop-again : tie.Need-loop-again Inv-loop μ-loop
 loop-again c =
-    let l = c .before .before .before .before in
-    let b = l .before .before .before .args .field .now in
-    let d = c .before .before .slot in
-    let n = spread-length b in (
+    let l = c .before .before .before in
+    let x = spread (l .before .before .args .field .now) in
+    let d = c .before .slot in
+    let n = spread-length (l .before .before .args .field .now) in (
       omega arith,
-      held-next _ _ (spread b) (l .loop .i) (d .result) (omega arith) (d .ensures) (l .loop .inv .1) (c .with-last .ensures),
-      led-next (spread b) (l .loop .i) (omega arith) (λ z. c .before .if1 .left (d .ensures ∙ z)) (l .loop .inv .2),
+      simp length-set (l .loop .inv .1),
+      stored-next _ x (l .loop .i) _ (omega arith) (omega arith) (d .ensures) (l .loop .inv .2),
+      led-next x (l .loop .i) (omega arith) (λ z. c .if1 .left (d .ensures ∙ z)) (l .loop .inv .3),
     )
 
 returns-2 : tie.Need-returns-2 Inv-loop μ-loop
 returns-2 c =
     let l = c .before in
-    let b = l .before .before .before .args .field .now in
-    held-is _ _ _ (led-all (spread b) (l .loop .i) (omega (arith, spread-length b)) (l .loop .inv .2)) (l .loop .inv .1)
+    let x = spread (l .before .before .args .field .now) in
+    let n = spread-length (l .before .before .args .field .now) in
+    stored-all _ x _ (l .loop .i) (omega arith) (l .loop .inv .2) (led-all x (l .loop .i) (omega arith) (l .loop .inv .3))
 
 pub of-field-spec : {M : Type 1} → statement M
 of-field-spec =
@@ -69,12 +68,11 @@ of-field-spec =
     (tie.spec
     Inv-loop
     μ-loop
-    none-requires
     loop-holds
     mul-loop
     slot-requires
     returns
-    with-last-requires
+    array-write-digits
     add-i
     loop-less
     loop-again
