@@ -1,0 +1,2 @@
+-- Laws of a table of identities.
+pub mod IdentityLaws

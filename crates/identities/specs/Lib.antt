@@ -1,0 +1,2 @@
+-- What a table of identities holds.
+pub mod Identities

@@ -1,0 +1,3 @@
+-- Laws of a table's rows, of its rules and of the identity table, in reading order. Assumes nothing.
+pub mod RowLaws
+pub mod RuleLaws

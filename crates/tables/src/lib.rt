@@ -1,0 +1,134 @@
+// Tables: their rules, and the first labelling.
+ghost use mathlib.Core.Path.{_≡_};
+ghost use mathlib.Core.Bool.{true};
+ghost use Prim.Native.Nat.{suc, _*_, _≤_};
+ghost use lib.ListN.{length};
+ghost use Rattle.tables.specs.Table.{mostRows, rowSize, rowsOf};
+ghost use Rattle.identities.specs.Identities.{among?};
+ghost use Rattle.tables.specs.Rules.{depth?, rowsChecked, checkedOf};
+ghost use Rattle.tables.specs.Rows.{HasRow, identityOf, depthOf, depthAt?, freshAt?, above};
+ghost use Rattle.identities.specs.Identities.{Holds};
+use answers::Refusal;
+use identities::Entered;
+use identities::PLACES;
+
+const MOST_ROWS: usize = 4096;
+
+const DEEPEST: u32 = 63;
+
+// The numbers of a row: identity, tag, depth.
+const ROW: usize = 3;
+
+// A table that was gone through: the number of its rows, or why it is refused.
+pub enum Checked {
+    Rows(usize),
+    Bad(Refusal),
+}
+
+// Goes through a table by its rules. Refuses 1, 2, 3.
+pub fn check(table: &[u32]) -> Checked
+    ensures checked { λ r. ⌜ r ≡ checkedOf (now (table .entry)) ⌝ }
+{
+    let n = table.len() / ROW;
+    if table.len() % ROW != 0 {
+        return Checked::Bad(Refusal::TableSize);
+    }
+    if n < 1 {
+        return Checked::Bad(Refusal::TableSize);
+    }
+    if MOST_ROWS < n {
+        return Checked::Bad(Refusal::TableSize);
+    }
+    check_rows(table, n)
+}
+
+// Goes through the rows from the top, in each the depth first.
+fn check_rows(table: &[u32], n: usize) -> Checked
+    requires whole { ⌜ (length (now table) ≡ rowSize * n) × (n ≤ mostRows) ⌝ }
+    ensures checked { λ r. ⌜ r ≡ rowsChecked (rowsOf (now (table .entry))) ⌝ }
+{
+    let mut places = [0u32; PLACES];
+    let mut i = 0;
+    while i < n {
+        if !row_depth(table, i) {
+            return Checked::Bad(Refusal::RowDepth(i));
+        }
+        if !row_identity(table, i, &mut places) {
+            return Checked::Bad(Refusal::RowIdentity(i));
+        }
+        i += 1;
+    }
+    Checked::Rows(n)
+}
+
+// The depth is 0 in the first row and follows the depth of the row above in a later one.
+fn row_depth(table: &[u32], i: usize) -> bool
+    requires row { ⌜ HasRow (now table) i ⌝ }
+    ensures depth { λ r. ⌜ r ≡ depthAt? (now (table .entry)) i ⌝ }
+{
+    let depth = depth_of(table, i);
+    if i == 0 {
+        return depth == 0;
+    }
+    follows(depth_of(table, i - 1), depth)
+}
+
+// A later depth is at least 1, at most the previous one and 1, and at most 63.
+fn follows(previous: u32, depth: u32) -> bool
+    ensures depth { λ r. ⌜ r ≡ depth? previous depth ⌝ }
+{
+    if depth < 1 {
+        return false;
+    }
+    if DEEPEST < depth {
+        return false;
+    }
+    depth - 1 <= previous
+}
+
+// The identity is not 0 and stands in no row above; then it is entered.
+fn row_identity(table: &[u32], i: usize, places: &mut [u32]) -> bool
+    requires row { ⌜ HasRow (now table) i ⌝ }
+    requires held { ⌜ Holds (now places) (above (now table) i) ⌝ }
+    ensures fresh { λ r. ⌜ r ≡ freshAt? (now (table .entry)) i ⌝ }
+    ensures held { λ r. ⌜ (r ≡ true → Holds (now (places .exit)) (above (now (table .entry)) (suc i))) ⌝ }
+{
+    let identity = identity_of(table, i);
+    if identity == 0 {
+        return false;
+    }
+    match identities::enter(places, identity) {
+        Entered::New => true,
+        Entered::Known => false,
+        Entered::NoPlace => !stands_above(table, i, identity),
+    }
+}
+
+// The plain search for an identity in the rows above row i.
+fn stands_above(table: &[u32], i: usize, identity: u32) -> bool
+    requires row { ⌜ HasRow (now table) i ⌝ }
+    ensures among { λ r. ⌜ r ≡ among? identity (above (now (table .entry)) i) ⌝ }
+{
+    let mut k = i;
+    while 0 < k {
+        k -= 1;
+        if identity == identity_of(table, k) {
+            return true;
+        }
+    }
+    false
+}
+
+fn identity_of(table: &[u32], i: usize) -> u32
+    requires row { ⌜ HasRow (now table) i ⌝ }
+    ensures identity { λ r. ⌜ r ≡ identityOf (now (table .entry)) i ⌝ }
+{
+    table[ROW * i]
+}
+
+fn depth_of(table: &[u32], i: usize) -> u32
+    requires row { ⌜ HasRow (now table) i ⌝ }
+    ensures depth { λ r. ⌜ r ≡ depthOf (now (table .entry)) i ⌝ }
+{
+    table[ROW * i + 2]
+}
