@@ -5,6 +5,7 @@ pub mod WordLaws
 pub mod DigitLaws
 pub mod ClosedLaws
 pub mod ReadingLaws
+pub mod WordsLaws
 pub mod SpreadLaws
 pub mod PackerLaws
 pub mod WriteLaws

@@ -1,3 +1,4 @@
 -- Labels and the four questions on two of them, in reading order.
 pub mod Label
 pub mod Questions
+pub mod Words

@@ -1,0 +1,48 @@
+-- `words_at` meets its contract: a word of the part is a word of the bytes. Assumes nothing.
+use Rattle.codes.proofs.WordsLaws.{words-part}
+use borrow.Author.Needs.{needs}
+use Rattle.codes.proofs.field.words_at.Statement.{statement}
+use Rattle.codes.proofs.field.words_at.Tie as tie
+use Rattle.codes.proofs.field.words_at.Reads as reads
+use Rattle.codes.proofs.field.words_at.Lts as lts
+use Rattle.codes.proofs.field.word.Reads as word-reads
+
+word-requires : tie.Need-word-requires
+word-requires c κs = search needs
+
+add-word : tie.Need-add-word
+add-word c = search needs
+
+word-requires-2 : tie.Need-word-requires-2
+word-requires-2 c κs = search needs
+
+add-word-2 : tie.Need-add-word-2
+add-word-2 c = search needs
+
+word-requires-3 : tie.Need-word-requires-3
+word-requires-3 c κs = search needs
+
+add-word-3 : tie.Need-add-word-3
+add-word-3 c = search needs
+
+word-requires-4 : tie.Need-word-requires-4
+word-requires-4 c κs = search needs
+
+returns : tie.Need-returns
+returns c =
+    let w = c .before .before .before in
+    let a = w .before .before .args in
+    words-part (a .bytes .now) (a .at) _ _ _ _ (w .word .ensures) (c .before .before .word2 .ensures) (c .before .word3 .ensures) (c .word4 .ensures)
+
+pub words-at-spec : {M : Type 1} → statement M
+words-at-spec =
+    tie.close
+    (tie.spec
+    word-requires
+    add-word
+    word-requires-2
+    add-word-2
+    word-requires-3
+    add-word-3
+    word-requires-4
+    returns)

@@ -1,0 +1,12 @@
+-- Laws of ordered forests and labelled forests, in reading order. Assumes nothing.
+pub mod ListLaws
+pub mod ForestLaws
+pub mod DistinctLaws
+pub mod ImageLaws
+pub mod TableLaws
+pub mod DepthLaws
+pub mod TourLaws
+pub mod KinLaws
+pub mod UniqueLaws
+pub mod LabelledLaws
+pub mod Examples

@@ -1,0 +1,8 @@
+-- Definitions of ordered forests and labelled forests, in reading order. Assumes nothing.
+pub mod Lists
+pub mod Forest
+pub mod Axes
+pub mod Table
+pub mod Tour
+pub mod Questions
+pub mod Labelled
