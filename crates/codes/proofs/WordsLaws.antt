@@ -1,23 +1,23 @@
 -- Laws of a field's four words: read at a place, compared, and what they say of the field.
 -- Assumes nothing.
 use mathlib.Core.Path.{_≡_, refl, sym, ap, _∙_}
-use mathlib.Core.Bool.{Bool, true, false, _&&_, false≢true}
-use mathlib.Core.List.{List, []}
+use mathlib.Core.Bool.{Bool, false}
+use mathlib.Core.List.{List}
 use Prim.Native.Nat.{ℕ, _+_, _≤_, _<_, compare, Ordering, Ordering·lt, Ordering·eq, Ordering·gt}
 use native.Mathlib.Omega.{arith}
-use lib.Dec.{ltb, eqb}
+use lib.Dec.{ltb}
 use lib.ListN.{length, take, drop, getD}
-use lib.Seq.{getD-take, getD-drop}
+use lib.Seq.{getD-take, getD-drop, take-all}
 use borrow.Author.Tests.{lt-ltb, le-ltb}
 use Rattle.digits.specs.Order.{belowAt, below?}
 use Rattle.digits.proofs.OrderLaws.{Compared, compared, lt, eq, gt}
 use Rattle.codes.specs.declared.field.Words.{Words}
 use Rattle.codes.specs.Code.{fieldSize}
-use Rattle.codes.specs.Reading.{Reading, code, empty, unsound, read, same?}
+use Rattle.codes.specs.Reading.{same?}
 use Rattle.codes.specs.Words.{wordAt, wordsOf, packedWords?, blankWords?, belowWords?, sameWords?}
 use Rattle.codes.proofs.FieldLaws.{Bytes}
 use Rattle.codes.proofs.WordLaws.{below?-word, drop-words, same?-words}
-use Rattle.codes.proofs.ReadingLaws.{packedField?, blankField?, packed-read, read-packed, blank-read, read-blank}
+use Rattle.codes.proofs.ReadingLaws.{packedField?, blankField?}
 
 -- a word of a part of some bytes is the word of the bytes, further on
 pub word-part : (b : List ℕ) (at k : ℕ) → k + 8 ≤ fieldSize → wordAt b (at + k) ≡ wordAt (take fieldSize (drop at b)) k
@@ -46,6 +46,10 @@ words-part b at i j k l e f g h =
     let z : at ≡ at + 0 = omega arith in
     let p = e ∙ ap (wordAt b) z ∙ word-part b at 0 (omega arith) in
     cc (p, f ∙ word-part b at 8 (omega arith), g ∙ word-part b at 16 (omega arith), h ∙ word-part b at 24 (omega arith))
+
+-- the words read from the start of a whole field are the field's
+pub words-whole : (b : List ℕ) → length b ≡ fieldSize → (w : Words) → w ≡ wordsOf (take fieldSize (drop 0 b)) → w ≡ wordsOf b
+words-whole b n w e = e ∙ ap wordsOf (take-all fieldSize b (omega arith))
 
 -- two words that differ decide, and two that do not leave it to the rest
 pub decided : (a b : ℕ) (rest : Bool) → (a ≡ b → ⊥) → ltb a b ≡ belowAt (compare a b) rest

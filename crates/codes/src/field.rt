@@ -5,7 +5,7 @@ ghost use Prim.Native.Nat.{_+_, _≤_, _<_};
 ghost use lib.ListN.{length, take, drop};
 ghost use Rattle.digits.specs.Order.{below?};
 ghost use Rattle.codes.specs.Code.{fieldSize};
-ghost use Rattle.codes.specs.Reading.{read, kindOf, same?};
+ghost use Rattle.codes.specs.Reading.{read, kindOf};
 ghost use Rattle.codes.specs.Words.{wordAt, full, ended, packed?};
 ghost use Rattle.codes.specs.Words.{wordsOf, packedWords?, blankWords?, belowWords?, sameWords?};
 use crate::spread::Code;
@@ -102,61 +102,6 @@ fn packed(a: u64, b: u64, c: u64, d: u64) -> bool
     )
 }
 
-// What a field holds. A field of another size than 32 bytes holds neither.
-pub fn kind_of(field: &[u8]) -> Kind
-    ensures kind { λ r. ⌜ r ≡ kindOf (read (now (field .entry))) ⌝ }
-{
-    if field.len() != Code::FIELD {
-        return Kind::Unsound;
-    }
-    let a = word(field, 0);
-    let b = word(field, 8);
-    let c = word(field, 16);
-    let d = word(field, 24);
-    if packed(a, b, c, d) {
-        return Kind::Full;
-    }
-    if also(a == 0, also(b == 0, also(c == 0, d == 0))) {
-        return Kind::Empty;
-    }
-    Kind::Unsound
-}
-
-// The left field is below the right one.
-pub fn below(left: &[u8], right: &[u8]) -> bool
-    requires whole { ⌜ (length (now left) ≡ fieldSize) × (length (now right) ≡ fieldSize) ⌝ }
-    ensures order { λ r. ⌜ r ≡ below? (now (left .entry)) (now (right .entry)) ⌝ }
-{
-    let mut k = 0;
-    while k < 4 {
-        let a = word(left, 8 * k);
-        let b = word(right, 8 * k);
-        if a < b {
-            return true;
-        }
-        if b < a {
-            return false;
-        }
-        k += 1;
-    }
-    false
-}
-
-// The two fields are the same to the last byte.
-pub fn same(left: &[u8], right: &[u8]) -> bool
-    requires whole { ⌜ (length (now left) ≡ fieldSize) × (length (now right) ≡ fieldSize) ⌝ }
-    ensures same { λ r. ⌜ r ≡ same? (now (left .entry)) (now (right .entry)) ⌝ }
-{
-    let mut k = 0;
-    while k < 4 {
-        if word(left, 8 * k) != word(right, 8 * k) {
-            return false;
-        }
-        k += 1;
-    }
-    true
-}
-
 // The words of the field that begins at a place.
 pub fn words_at(bytes: &[u8], at: usize) -> Words
     requires inside { ⌜ at + fieldSize ≤ length (now bytes) ⌝ }
@@ -205,4 +150,29 @@ pub fn words_same(x: Words, y: Words) -> bool
     ensures same { λ r. ⌜ r ≡ sameWords? x y ⌝ }
 {
     also(x.a == y.a, also(x.b == y.b, also(x.c == y.c, x.d == y.d)))
+}
+
+// What a field holds. A field of another size than 32 bytes holds neither.
+pub fn kind_of(field: &[u8]) -> Kind
+    ensures kind { λ r. ⌜ r ≡ kindOf (read (now (field .entry))) ⌝ }
+{
+    if field.len() != Code::FIELD {
+        return Kind::Unsound;
+    }
+    let words = words_at(field, 0);
+    if words_packed(words) {
+        return Kind::Full;
+    }
+    if words_blank(words) {
+        return Kind::Empty;
+    }
+    Kind::Unsound
+}
+
+// The left field is below the right one.
+pub fn below(left: &[u8], right: &[u8]) -> bool
+    requires whole { ⌜ (length (now left) ≡ fieldSize) × (length (now right) ≡ fieldSize) ⌝ }
+    ensures order { λ r. ⌜ r ≡ below? (now (left .entry)) (now (right .entry)) ⌝ }
+{
+    words_below(words_at(left, 0), words_at(right, 0))
 }

@@ -18,7 +18,6 @@ pub use field::Kind;
 pub use field::Words;
 pub use field::below;
 pub use field::kind_of;
-pub use field::same;
 pub use field::words_at;
 pub use field::words_below;
 pub use field::words_blank;

@@ -13,11 +13,9 @@ use Rattle.digits.specs.Order.{Digits, Below, below?}
 use Rattle.digits.proofs.OrderLaws.{below?→}
 use Rattle.codes.specs.Code.{fieldSize, IsCode}
 use Rattle.codes.specs.Field.{fieldOf}
-use Rattle.codes.specs.declared.field.Kind.{Kind}
-use Rattle.codes.specs.declared.field.Kind.the-variants.{Full, Empty, Unsound}
-use Rattle.codes.specs.Reading.{Reading, code, empty, unsound, read, kindOf, sideOf}
+use Rattle.codes.specs.Reading.{Reading, code, empty, unsound, read, sideOf}
 use Rattle.codes.proofs.ReadingLaws.{Sided, read-code, read-empty}
-use Rattle.codes.proofs.CallLaws.{known-code, full-below}
+use Rattle.codes.proofs.CallLaws.{full-below}
 use Rattle.labels.specs.Label.{startAt, endAt, parentAt, labelSize, fieldAt, Label, labelOf, codeHeld?, parentSound?, soundAs?, sound?}
 
 pub field-size : (b : List ℕ) (at : ℕ) → at + fieldSize ≤ length b → length (fieldAt at b) ≡ fieldSize

@@ -10,7 +10,7 @@ use Rattle.digits.specs.Order.{below?}
 use Rattle.codes.specs.declared.field.Words.{Words}
 use Rattle.codes.specs.Code.{fieldSize}
 use Rattle.codes.specs.Reading.{Reading, code, empty, unsound, read, sideOf}
-use Rattle.codes.specs.Words.{wordsOf, packedWords?, blankWords?, belowWords?}
+use Rattle.codes.specs.Words.{wordsOf, packedWords?}
 use Rattle.codes.proofs.FieldLaws.{Bytes}
 use Rattle.codes.proofs.WordLaws.{all-take, all-drop}
 use Rattle.codes.proofs.ReadingLaws.{packedField?, blankField?, packed-read, read-packed, blank-read, read-blank}

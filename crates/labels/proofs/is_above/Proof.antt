@@ -8,10 +8,6 @@ use Rattle.labels.proofs.QuestionLaws.{start-below, end-below, above-no
 use borrow.Author.Needs.{needs}
 use Rattle.labels.proofs.is_above.Statement.{statement}
 use Rattle.labels.proofs.is_above.Tie as tie
-use Rattle.labels.proofs.is_above.Reads as reads
-use Rattle.labels.proofs.is_above.Lts as lts
-use Rattle.codes.proofs.words_at.Reads as words-at-reads
-use Rattle.codes.proofs.words_below.Reads as words-below-reads
 
 -- the bytes of the two labels
 upper : (k : tie.After-shared-slice-known2) → Bytes (k .before .before .args .u .now)

@@ -1,5 +1,4 @@
 -- `is_parent` meets its contract: two whole fields. Assumes nothing.
-use mathlib.Core.Path.{_∙_}
 use native.Mathlib.Omega.{arith}
 use Rattle.codes.proofs.FieldLaws.{Bytes}
 use Rattle.codes.proofs.WordLaws.{all-bytes}
@@ -8,10 +7,6 @@ use Rattle.labels.proofs.QuestionLaws.{parent-same}
 use borrow.Author.Needs.{needs}
 use Rattle.labels.proofs.is_parent.Statement.{statement}
 use Rattle.labels.proofs.is_parent.Tie as tie
-use Rattle.labels.proofs.is_parent.Reads as reads
-use Rattle.labels.proofs.is_parent.Lts as lts
-use Rattle.codes.proofs.words_at.Reads as words-at-reads
-use Rattle.codes.proofs.words_same.Reads as words-same-reads
 
 -- the bytes of the two labels
 upper : (k : tie.After-shared-slice-known2) → Bytes (k .before .before .args .u .now)

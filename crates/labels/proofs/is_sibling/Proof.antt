@@ -9,11 +9,6 @@ use Rattle.labels.proofs.QuestionLaws.{starts-same, parents-same, sibli
 use borrow.Author.Needs.{needs}
 use Rattle.labels.proofs.is_sibling.Statement.{statement}
 use Rattle.labels.proofs.is_sibling.Tie as tie
-use Rattle.labels.proofs.is_sibling.Reads as reads
-use Rattle.labels.proofs.is_sibling.Lts as lts
-use Rattle.codes.proofs.words_at.Reads as words-at-reads
-use Rattle.codes.proofs.words_blank.Reads as words-blank-reads
-use Rattle.codes.proofs.words_same.Reads as words-same-reads
 
 -- the bytes of the two labels
 upper : (k : tie.After-shared-slice-known2) → Bytes (k .before .before .args .u .now)

@@ -3,11 +3,6 @@ use mathlib.Core.Path.{refl, sym, _∙_}
 use borrow.Author.Needs.{needs}
 use Rattle.labels.proofs.parent_sound.Statement.{statement}
 use Rattle.labels.proofs.parent_sound.Tie as tie
-use Rattle.labels.proofs.parent_sound.Reads as reads
-use Rattle.labels.proofs.parent_sound.Lts as lts
-use Rattle.codes.proofs.words_below.Reads as words-below-reads
-use Rattle.codes.proofs.words_blank.Reads as words-blank-reads
-use Rattle.codes.proofs.words_packed.Reads as words-packed-reads
 
 words-blank-requires : tie.Need-words-blank-requires
 words-blank-requires c κs = search needs

@@ -1,12 +1,9 @@
 -- `sound` meets its contract: field by field. Assumes nothing.
-use mathlib.Core.Path.{_≡_, sym, _∙_, subst₂}
+use mathlib.Core.Path.{_≡_, sym, _∙_}
 use mathlib.Core.Bool.{Bool}
 use native.Mathlib.Omega.{arith}
-use lib.ListN.{length}
 use Rattle.digits.specs.Order.{below?}
-use Rattle.codes.specs.Code.{fieldSize}
 use Rattle.codes.specs.Reading.{read}
-use Rattle.codes.specs.Words.{belowWords?}
 use Rattle.codes.proofs.FieldLaws.{Bytes}
 use Rattle.codes.proofs.WordLaws.{all-bytes}
 use Rattle.codes.proofs.WordsLaws.{words-below}
@@ -16,12 +13,6 @@ use Rattle.labels.proofs.WordLaws.{field-bytes, words-held, parent-word
 use borrow.Author.Needs.{needs}
 use Rattle.labels.proofs.sound.Statement.{statement}
 use Rattle.labels.proofs.sound.Tie as tie
-use Rattle.labels.proofs.sound.Reads as reads
-use Rattle.labels.proofs.sound.Lts as lts
-use Rattle.codes.proofs.words_at.Reads as words-at-reads
-use Rattle.codes.proofs.words_below.Reads as words-below-reads
-use Rattle.codes.proofs.words_packed.Reads as words-packed-reads
-use Rattle.labels.proofs.parent_sound.Reads as parent-sound-reads
 
 -- what is known of the label's bytes, and what the tests on its words say of its fields
 bytes : (c : tie.After-shared-slice-known) → Bytes (c .before .args .label .now)

@@ -3,9 +3,6 @@ use Rattle.codes.proofs.WordsLaws.{words-part}
 use borrow.Author.Needs.{needs}
 use Rattle.codes.proofs.field.words_at.Statement.{statement}
 use Rattle.codes.proofs.field.words_at.Tie as tie
-use Rattle.codes.proofs.field.words_at.Reads as reads
-use Rattle.codes.proofs.field.words_at.Lts as lts
-use Rattle.codes.proofs.field.word.Reads as word-reads
 
 word-requires : tie.Need-word-requires
 word-requires c κs = search needs

@@ -3,8 +3,6 @@ use mathlib.Core.Path.{_∙_}
 use Rattle.codes.proofs.WordsLaws.{decided, undecided, decided-last}
 use Rattle.codes.proofs.field.words_below.Statement.{statement}
 use Rattle.codes.proofs.field.words_below.Tie as tie
-use Rattle.codes.proofs.field.words_below.Reads as reads
-use Rattle.codes.proofs.field.words_below.Lts as lts
 
 returns : tie.Need-returns
 returns c = decided _ _ _ (c .before .before .if1 .taken)

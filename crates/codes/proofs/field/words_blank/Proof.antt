@@ -2,9 +2,6 @@
 use borrow.Author.Needs.{needs}
 use Rattle.codes.proofs.field.words_blank.Statement.{statement}
 use Rattle.codes.proofs.field.words_blank.Tie as tie
-use Rattle.codes.proofs.field.words_blank.Reads as reads
-use Rattle.codes.proofs.field.words_blank.Lts as lts
-use Rattle.codes.proofs.field.also.Reads as also-reads
 
 also-requires : tie.Need-also-requires
 also-requires c κs = search needs
