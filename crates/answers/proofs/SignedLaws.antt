@@ -40,6 +40,7 @@ pub accepted-small : (a : Answer) (n : ℕ) → a ≡ Accepted n → Signable a 
 accepted-small a n e h = subst Signable e h
 
 -- what is refused by a test, or signable where it holds, is signable
-pub unless-signable : (t : Bool) (r : Refusal) (b : List ℕ) (o : Outcome) → (t ≡ true → Signable (o .answer)) → Signable (unless t r b o .answer)
+pub unless-signable : (t : Bool) (r : Refusal) (b : List ℕ) (o : Outcome) → (t ≡ true → Signable (o .answer))
+    → Signable (unless t r b o .answer)
 unless-signable true r b o h = h refl
 unless-signable false r b o h = tt

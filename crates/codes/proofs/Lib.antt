@@ -5,7 +5,6 @@ pub mod WordLaws
 pub mod DigitLaws
 pub mod ClosedLaws
 pub mod ReadingLaws
-pub mod WordsLaws
 pub mod SpreadLaws
 pub mod PackerLaws
 pub mod WriteLaws

@@ -11,7 +11,7 @@ use lib.ListN.{length, getD}
 use borrow.Author.Tests.{eq-eqb, ne-eqb, eqb-true, eqb-false, le-leb, leb-true, not-true}
 use Rattle.digits.specs.Order.{Digits}
 use Rattle.digits.specs.Code.{Formed}
-use Rattle.digits.proofs.CodeLaws.{formed-cons}
+use Rattle.digits.proofs.CodeLaws.{formed-cons, formed-first}
 use Rattle.codes.specs.declared.field.Kind.the-variants.{Full, Empty, Unsound}
 use Rattle.codes.specs.Code.{longest, fieldSize, IsCode, code?}
 use Rattle.codes.specs.Field.{fieldOf, gather, spread, lead}
@@ -75,7 +75,7 @@ read-empty b e = subst (Told b) e (told b)
 abbrev pub Sided : Digits → Type 0
 Sided x = (x ≡ []) ⊎ IsCode x
 
--- packed, the two are told apart by their bytes
+-- packed, the two are told apart by their bytes and by their first byte
 pub lead-side : (x : Digits) → Sided x → lead (spread (fieldOf x)) ≡ x
 unfolding fieldOf
 lead-side x (inl e) = rw e refl
@@ -92,6 +92,16 @@ same?-field x y s t = go (same? (fieldOf x) (fieldOf y)) (same? x y) refl refl
         absurd (false≢true (sym q ∙ ap (same? x) (sym e) ∙ same?-refl x))
     go false true p q =
         absurd (false≢true (sym p ∙ ap (λ (z : Digits). same? (fieldOf x) (fieldOf z)) (sym (same?-true x y q)) ∙ same?-refl (fieldOf x)))
+
+pub first-zero : (x : Digits) → Sided x → getD (fieldOf x) 0 0 ≡ 0 → x ≡ []
+unfolding fieldOf
+first-zero x (inl e) h = e
+first-zero [] (inr c) h = refl
+first-zero (a ∷ x) (inr c) h = absurd (omega (arith, formed-first 1 3 a x (c .formed) .0))
+
+pub first-none : (x : Digits) → x ≡ [] → getD (fieldOf x) 0 0 ≡ 0
+unfolding fieldOf
+first-none x e = rw e refl
 
 -- a field of another size is unsound
 pub read-size : (b : List ℕ) → (length b ≡ fieldSize → ⊥) → read b ≡ unsound

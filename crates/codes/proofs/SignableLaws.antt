@@ -23,7 +23,8 @@ use Rattle.codes.proofs.ReadingLaws.{read-code}
 pub pack-signable : (x : Digits) (lent : List ℕ) → Signable (packOutcome x lent .answer)
 unfolding packOutcome
 pack-signable x lent =
-    unless-signable (code? x) NoCode lent _ (λ e. unless-signable (leb fieldSize (length lent)) Room lent _ (λ _. omega (arith, code?-true x e .fits)))
+    unless-signable (code? x) NoCode lent _
+    (λ e. unless-signable (leb fieldSize (length lent)) Room lent _ (λ _. omega (arith, code?-true x e .fits)))
 
 pub unpack-signable : (field lent : List ℕ) → Signable (unpackOutcome field lent .answer)
 unfolding unpackOutcome

@@ -2,11 +2,9 @@
 -- Assumes nothing.
 use mathlib.Core.Bool.{Bool, true, false, cond, _&&_}
 use mathlib.Core.List.{List}
-use Prim.Native.Nat.{ℕ, zero, suc, _+_, _*_, _/_, _%_, compare}
+use Prim.Native.Nat.{ℕ, zero, suc, _+_, _*_, _/_, _%_}
 use lib.Dec.{eqb, leb}
 use lib.ListN.{getD}
-use Rattle.digits.specs.Order.{belowAt}
-use Rattle.codes.specs.declared.field.Words.{Words}
 
 -- the number of the eight bytes from index at on, the first the highest
 abbrev pub wordAt : List ℕ → ℕ → ℕ
@@ -31,23 +29,3 @@ packed? a b c d =
     cond (eqb d 0)
     (cond (eqb c 0) (cond (eqb b 0) (ended 32 a) (ended 32 b && full 32 a)) (ended 32 c && (full 32 b && full 32 a)))
     (eqb (d % 4) 0 && (ended 32 d && (full 32 c && (full 32 b && full 32 a))))
-
--- the four words of a field
-unfoldable pub wordsOf : List ℕ → Words
-wordsOf field = record { a = wordAt field 0; b = wordAt field 8; c = wordAt field 16; d = wordAt field 24 }
-
-abbrev pub packedWords? : Words → Bool
-packedWords? w = packed? (w .a) (w .b) (w .c) (w .d)
-
--- the empty field
-abbrev pub blankWords? : Words → Bool
-blankWords? w = eqb (w .a) 0 && (eqb (w .b) 0 && (eqb (w .c) 0 && eqb (w .d) 0))
-
--- the first differing word decides
-abbrev pub belowWords? : Words → Words → Bool
-belowWords? x y =
-    belowAt (compare (x .a) (y .a))
-    (belowAt (compare (x .b) (y .b)) (belowAt (compare (x .c) (y .c)) (belowAt (compare (x .d) (y .d)) false)))
-
-abbrev pub sameWords? : Words → Words → Bool
-sameWords? x y = eqb (x .a) (y .a) && (eqb (x .b) (y .b) && (eqb (x .c) (y .c) && eqb (x .d) (y .d)))

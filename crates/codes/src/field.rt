@@ -2,12 +2,11 @@
 ghost use mathlib.Core.Path.{_≡_};
 ghost use mathlib.Core.Bool.{_&&_};
 ghost use Prim.Native.Nat.{_+_, _≤_, _<_};
-ghost use lib.ListN.{length, take, drop};
+ghost use lib.ListN.{length};
 ghost use Rattle.digits.specs.Order.{below?};
 ghost use Rattle.codes.specs.Code.{fieldSize};
-ghost use Rattle.codes.specs.Reading.{read, kindOf};
+ghost use Rattle.codes.specs.Reading.{read, kindOf, same?};
 ghost use Rattle.codes.specs.Words.{wordAt, full, ended, packed?};
-ghost use Rattle.codes.specs.Words.{wordsOf, packedWords?, blankWords?, belowWords?, sameWords?};
 use crate::spread::Code;
 
 // What a field holds: a code, nothing, or neither.
@@ -15,14 +14,6 @@ pub enum Kind {
     Full,
     Empty,
     Unsound,
-}
-
-// A field's bytes as four words, the first the highest.
-pub struct Words {
-    a: u64,
-    b: u64,
-    c: u64,
-    d: u64,
 }
 
 // A byte as a word.
@@ -102,56 +93,6 @@ fn packed(a: u64, b: u64, c: u64, d: u64) -> bool
     )
 }
 
-// The words of the field that begins at a place.
-pub fn words_at(bytes: &[u8], at: usize) -> Words
-    requires inside { ⌜ at + fieldSize ≤ length (now bytes) ⌝ }
-    ensures words { λ r. ⌜ r ≡ wordsOf (take fieldSize (drop at (now (bytes .entry)))) ⌝ }
-{
-    Words {
-        a: word(bytes, at),
-        b: word(bytes, at + 8),
-        c: word(bytes, at + 16),
-        d: word(bytes, at + 24),
-    }
-}
-
-// The words are those of a packed code.
-pub fn words_packed(w: Words) -> bool
-    ensures packed { λ r. ⌜ r ≡ packedWords? w ⌝ }
-{
-    packed(w.a, w.b, w.c, w.d)
-}
-
-// The words are those of the empty field.
-pub fn words_blank(w: Words) -> bool
-    ensures blank { λ r. ⌜ r ≡ blankWords? w ⌝ }
-{
-    also(w.a == 0, also(w.b == 0, also(w.c == 0, w.d == 0)))
-}
-
-// The left field is below the right one.
-pub fn words_below(x: Words, y: Words) -> bool
-    ensures below { λ r. ⌜ r ≡ belowWords? x y ⌝ }
-{
-    if x.a != y.a {
-        return x.a < y.a;
-    }
-    if x.b != y.b {
-        return x.b < y.b;
-    }
-    if x.c != y.c {
-        return x.c < y.c;
-    }
-    x.d < y.d
-}
-
-// The two fields are the same.
-pub fn words_same(x: Words, y: Words) -> bool
-    ensures same { λ r. ⌜ r ≡ sameWords? x y ⌝ }
-{
-    also(x.a == y.a, also(x.b == y.b, also(x.c == y.c, x.d == y.d)))
-}
-
 // What a field holds. A field of another size than 32 bytes holds neither.
 pub fn kind_of(field: &[u8]) -> Kind
     ensures kind { λ r. ⌜ r ≡ kindOf (read (now (field .entry))) ⌝ }
@@ -159,11 +100,14 @@ pub fn kind_of(field: &[u8]) -> Kind
     if field.len() != Code::FIELD {
         return Kind::Unsound;
     }
-    let words = words_at(field, 0);
-    if words_packed(words) {
+    let a = word(field, 0);
+    let b = word(field, 8);
+    let c = word(field, 16);
+    let d = word(field, 24);
+    if packed(a, b, c, d) {
         return Kind::Full;
     }
-    if words_blank(words) {
+    if also(a == 0, also(b == 0, also(c == 0, d == 0))) {
         return Kind::Empty;
     }
     Kind::Unsound
@@ -174,5 +118,32 @@ pub fn below(left: &[u8], right: &[u8]) -> bool
     requires whole { ⌜ (length (now left) ≡ fieldSize) × (length (now right) ≡ fieldSize) ⌝ }
     ensures order { λ r. ⌜ r ≡ below? (now (left .entry)) (now (right .entry)) ⌝ }
 {
-    words_below(words_at(left, 0), words_at(right, 0))
+    let mut k = 0;
+    while k < 4 {
+        let a = word(left, 8 * k);
+        let b = word(right, 8 * k);
+        if a < b {
+            return true;
+        }
+        if b < a {
+            return false;
+        }
+        k += 1;
+    }
+    false
+}
+
+// The two fields are the same to the last byte.
+pub fn same(left: &[u8], right: &[u8]) -> bool
+    requires whole { ⌜ (length (now left) ≡ fieldSize) × (length (now right) ≡ fieldSize) ⌝ }
+    ensures same { λ r. ⌜ r ≡ same? (now (left .entry)) (now (right .entry)) ⌝ }
+{
+    let mut k = 0;
+    while k < 4 {
+        if word(left, 8 * k) != word(right, 8 * k) {
+            return false;
+        }
+        k += 1;
+    }
+    true
 }

@@ -1,5 +1,4 @@
--- Laws of labels: what a sound one holds, what its fields and their words say, the questions, and the questions as relations.
+-- Laws of labels: what a sound one holds, what the fields say of the questions, and the questions themselves.
 pub mod LabelLaws
-pub mod WordLaws
 pub mod QuestionLaws
 pub mod RelationLaws

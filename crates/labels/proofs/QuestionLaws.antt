@@ -1,30 +1,27 @@
 -- Laws of the questions: what two sound labels' fields say of each, and what the answer is.
 -- Assumes nothing.
 use mathlib.Core.Path.{_≡_, refl, sym, ap, _∙_}
-use mathlib.Core.Logic.{inl, inr}
-use mathlib.Core.Bool.{Bool, true, false, not, _&&_, and-false, false≢true}
+use mathlib.Core.Logic.{inr}
+use mathlib.Core.Bool.{Bool, true, false, not, _&&_, and-false}
 use mathlib.Core.List.{List, [], _∷_}
-use Prim.Native.Nat.{ℕ, _+_, _≤_}
+use Prim.Native.Nat.{ℕ}
 use native.Mathlib.Omega.{arith}
-use lib.ListN.{length}
+use lib.ListN.{length, drop, getD}
+use lib.Seq.{getD-take, getD-drop}
 use lib.IntN.{ℤ, pos, negsuc}
 use Rattle.digits.specs.Order.{Digits, below?}
 use Rattle.digits.proofs.CodeLaws.{formed-length}
 use Rattle.answers.specs.declared.Refusal.the-variants as refusals
 use Rattle.answers.specs.Number.{numberOf}
 use Rattle.answers.specs.Signed.{refusedAs}
-use Rattle.codes.specs.declared.field.Words.{Words}
 use Rattle.codes.specs.Code.{fieldSize}
-use Rattle.codes.specs.Field.{fieldOf, spread, lead}
-use Rattle.codes.specs.Reading.{read, same?}
-use Rattle.codes.specs.Words.{wordsOf, blankWords?, belowWords?, sameWords?}
-use Rattle.codes.proofs.FieldLaws.{Bytes, below?-field}
-use Rattle.codes.proofs.ReadingLaws.{blankField?, same?-true, same?-field, lead-side, blank-read, read-blank, read-empty, read-nothing}
-use Rattle.codes.proofs.WordsLaws.{words-below, words-same, blank-words}
+use Rattle.codes.specs.Field.{fieldOf}
+use Rattle.codes.specs.Reading.{same?}
+use Rattle.codes.proofs.FieldLaws.{below?-field}
+use Rattle.codes.proofs.ReadingLaws.{same?-true, same?-field, first-zero, first-none}
 use Rattle.labels.specs.Label.{startAt, endAt, parentAt, fieldAt, Label, labelOf, sound?}
 use Rattle.labels.specs.Questions.{order, above?, orphan?, parent?, sibling?, asked}
-use Rattle.labels.proofs.LabelLaws.{Sound, sound→, field-size}
-use Rattle.labels.proofs.WordLaws.{field-bytes}
+use Rattle.labels.proofs.LabelLaws.{Sound, sound→}
 
 -- a refusal, or the answer
 pub asked-refused : (u v : List ℕ) (answer : ℤ) → (sound? u && sound? v) ≡ false → refusedAs (numberOf refusals.Label) ≡ asked u v answer
@@ -36,7 +33,7 @@ unfolding asked
 asked-answer u v answer e = sym (rw e refl)
 
 -- two sound labels
-module _ (b c : List ℕ) (p : sound? b ≡ true) (q : sound? c ≡ true) (i : Bytes b) (j : Bytes c) where
+module _ (b c : List ℕ) (p : sound? b ≡ true) (q : sound? c ≡ true) where
   abbrev u : Label
   u = labelOf b
 
@@ -66,46 +63,26 @@ module _ (b c : List ℕ) (p : sound? b ≡ true) (q : sound? c ≡ true) (i : B
   pub above-by : (r : Bool) → below? (u .start) (v .start) ≡ true → below? (v .end) (u .end) ≡ r → r ≡ above? u v
   above-by r e f = sym (rw (e, f) refl)
 
-  -- the words of two fields, at any two places, say what the fields do; x and y are the words lent, r is what the test answered
-  below-by : (at to : ℕ) → at + fieldSize ≤ length b → to + fieldSize ≤ length c → (x y : Words) (r : Bool)
-      → x ≡ wordsOf (fieldAt at b) → y ≡ wordsOf (fieldAt to c) → r ≡ belowWords? x y → below? (fieldAt at b) (fieldAt to c) ≡ r
-  below-by at to m n x y r e f h =
-      sym
-      (h
-      ∙ rw (e, f)
-      (words-below (fieldAt at b) (fieldAt to c) (field-size b at m) (field-size c to n) (field-bytes b at i) (field-bytes c to j)))
-
-  same-by : (at to : ℕ) → at + fieldSize ≤ length b → to + fieldSize ≤ length c → (x y : Words) (r : Bool)
-      → x ≡ wordsOf (fieldAt at b) → y ≡ wordsOf (fieldAt to c) → r ≡ sameWords? x y → same? (fieldAt at b) (fieldAt to c) ≡ r
-  same-by at to m n x y r e f h =
-      sym
-      (h
-      ∙ rw (e, f)
-      (words-same (fieldAt at b) (fieldAt to c) (field-size b at m) (field-size c to n) (field-bytes b at i) (field-bytes c to j)))
-
-  pub start-below : (x y : Words) (r : Bool) → x ≡ wordsOf (fieldAt startAt b) → y ≡ wordsOf (fieldAt startAt c) → r ≡ belowWords? x y
+  -- tests on two fields, by what they say of the labels; x and y are the fields lent, r is what the test answered
+  pub start-below : (x y : List ℕ) (r : Bool) → x ≡ fieldAt startAt b → y ≡ fieldAt startAt c → r ≡ below? x y
       → below? (u .start) (v .start) ≡ r
   start-below x y r e f h =
-      sym (rw (s .start-field, t .start-field) (below?-field (u .start) (v .start) (s .start-code) (t .start-code)))
-      ∙ below-by startAt startAt (omega (arith, s .size)) (omega (arith, t .size)) x y r e f h
+      sym (h ∙ rw (e, f, s .start-field, t .start-field) (below?-field (u .start) (v .start) (s .start-code) (t .start-code)))
 
-  pub end-below : (x y : Words) (r : Bool) → x ≡ wordsOf (fieldAt endAt b) → y ≡ wordsOf (fieldAt endAt c) → r ≡ belowWords? x y
+  pub end-below : (x y : List ℕ) (r : Bool) → x ≡ fieldAt endAt b → y ≡ fieldAt endAt c → r ≡ below? x y
       → below? (u .end) (v .end) ≡ r
   end-below x y r e f h =
-      sym (rw (s .end-field, t .end-field) (below?-field (u .end) (v .end) (s .end-code) (t .end-code)))
-      ∙ below-by endAt endAt (omega (arith, s .size)) (omega (arith, t .size)) x y r e f h
+      sym (h ∙ rw (e, f, s .end-field, t .end-field) (below?-field (u .end) (v .end) (s .end-code) (t .end-code)))
 
-  pub starts-same : (x y : Words) (r : Bool) → x ≡ wordsOf (fieldAt startAt b) → y ≡ wordsOf (fieldAt startAt c) → r ≡ sameWords? x y
+  pub starts-same : (x y : List ℕ) (r : Bool) → x ≡ fieldAt startAt b → y ≡ fieldAt startAt c → r ≡ same? x y
       → same? (u .start) (v .start) ≡ r
   starts-same x y r e f h =
-      sym (rw (s .start-field, t .start-field) (same?-field (u .start) (v .start) (inr (s .start-code)) (inr (t .start-code))))
-      ∙ same-by startAt startAt (omega (arith, s .size)) (omega (arith, t .size)) x y r e f h
+      sym (h ∙ rw (e, f, s .start-field, t .start-field) (same?-field (u .start) (v .start) (inr (s .start-code)) (inr (t .start-code))))
 
-  pub parents-same : (x y : Words) (r : Bool) → x ≡ wordsOf (fieldAt parentAt b) → y ≡ wordsOf (fieldAt parentAt c) → r ≡ sameWords? x y
+  pub parents-same : (x y : List ℕ) (r : Bool) → x ≡ fieldAt parentAt b → y ≡ fieldAt parentAt c → r ≡ same? x y
       → same? (u .parent) (v .parent) ≡ r
   parents-same x y r e f h =
-      sym (rw (s .parent-field, t .parent-field) (same?-field (u .parent) (v .parent) (s .parent-side) (t .parent-side)))
-      ∙ same-by parentAt parentAt (omega (arith, s .size)) (omega (arith, t .size)) x y r e f h
+      sym (h ∙ rw (e, f, s .parent-field, t .parent-field) (same?-field (u .parent) (v .parent) (s .parent-side) (t .parent-side)))
 
   -- a parent start that equals a start is not empty
   start-some : same? (v .parent) (u .start) ≡ true → orphan? v ≡ false
@@ -119,50 +96,36 @@ module _ (b c : List ℕ) (p : sound? b ≡ true) (q : sound? c ≡ true) (i : B
   parent-as true e = sym (rw (e, start-some e) refl)
   parent-as false e = sym (rw e (and-false (not (orphan? v))))
 
-  pub parent-same : (x y : Words) (r : Bool) → x ≡ wordsOf (fieldAt parentAt c) → y ≡ wordsOf (fieldAt startAt b) → r ≡ sameWords? x y
-      → r ≡ parent? u v
+  pub parent-same : (x y : List ℕ) (r : Bool) → x ≡ fieldAt parentAt c → y ≡ fieldAt startAt b → r ≡ same? x y → r ≡ parent? u v
   parent-same x y r e f h =
-      let w =
-      words-same (fieldAt parentAt c) (fieldAt startAt b) (field-size c parentAt (omega (arith, t .size)))
-      (field-size b startAt (omega (arith, s .size))) (field-bytes c parentAt j) (field-bytes b startAt i)
-      in
-      let m = same?-field (v .parent) (u .start) (t .parent-side) (inr (s .start-code)) in
-      parent-as r (sym (rw (e, f, w, t .parent-field, s .start-field, m) at h))
+      parent-as r
+      (sym (h ∙ rw (e, f, t .parent-field, s .start-field) (same?-field (v .parent) (u .start) (t .parent-side) (inr (s .start-code)))))
 
-  -- an empty parent start by its words
-  abbrev P : List ℕ
-  P = fieldAt parentAt b
+  -- the first byte of a parent start
+  first-byte : getD b parentAt 0 ≡ getD (fieldOf (u .parent)) 0 0
+  first-byte =
+      sym (ap (λ (l : List ℕ). getD l 0 0) (sym (s .parent-field))
+      ∙ getD-take fieldSize (drop parentAt b) 0 0 (omega arith) ∙ getD-drop parentAt b 0 0)
 
-  size : length P ≡ fieldSize
-  size = field-size b parentAt (omega (arith, s .size))
+  pub sibling-orphan : getD b parentAt 0 ≡ 0 → false ≡ sibling? u v
+  sibling-orphan h =
+      let e = first-zero (u .parent) (s .parent-side) (sym first-byte ∙ h) in
+      sym (rw e refl)
 
-  bytes : Bytes P
-  bytes = field-bytes b parentAt i
-
-  orphan-blank : (x : Words) (r : Bool) → x ≡ wordsOf P → r ≡ blankWords? x → orphan? u ≡ r
-  orphan-blank x r e h = go r (orphan? u) (h ∙ ap blankWords? e ∙ blank-words P size bytes) refl
+  orphan-first : (getD b parentAt 0 ≡ 0 → ⊥) → orphan? u ≡ false
+  orphan-first h = go (orphan? u) refl
     where
-      go : (r o : Bool) → r ≡ blankField? P → orphan? u ≡ o → o ≡ r
-      go true true p q = refl
-      go false false p q = refl
-      go true false p q =
-          let n = sym (s .parent-field) ∙ read-empty P (blank-read P size bytes (sym p)) in
-          let z = sym (lead-side (u .parent) (s .parent-side)) ∙ ap (λ (l : List ℕ). lead (spread l)) n ∙ lead-side [] (inl refl) in
-          absurd (false≢true (sym q ∙ ap (λ (x : Digits). same? x []) z))
-      go false true p q =
-          let z = s .parent-field ∙ ap fieldOf (same?-true (u .parent) [] q) in
-          absurd (false≢true (p ∙ read-blank P size bytes (ap read z ∙ read-nothing)))
-
-  pub sibling-orphan : (x : Words) (r : Bool) → x ≡ wordsOf (fieldAt parentAt b) → r ≡ blankWords? x → r ≡ true → false ≡ sibling? u v
-  sibling-orphan x r e h k = sym (rw (orphan-blank x r e h ∙ k) refl)
+      go : (r : Bool) → orphan? u ≡ r → r ≡ false
+      go true e = absurd (h (first-byte ∙ first-none (u .parent) (same?-true (u .parent) [] e)))
+      go false e = refl
 
   pub sibling-apart : same? (u .parent) (v .parent) ≡ false → false ≡ sibling? u v
   sibling-apart h =
       sym (rw h (ap (λ (r : Bool). r && not (same? (u .start) (v .start))) (and-false (not (orphan? u) && not (orphan? v)))))
 
-  pub sibling-by : (x : Words) (r : Bool) → x ≡ wordsOf (fieldAt parentAt b) → r ≡ blankWords? x → r ≡ false
-      → same? (u .parent) (v .parent) ≡ true → (m : Bool) → same? (u .start) (v .start) ≡ m → not m ≡ sibling? u v
-  sibling-by x r e h k same m n =
-      let p = same?-true (u .parent) (v .parent) same in
-      let o = orphan-blank x r e h ∙ k in
-      sym (rw (same, o, ap (λ (z : Digits). same? z []) (sym p) ∙ o, n) refl)
+  pub sibling-by : (getD b parentAt 0 ≡ 0 → ⊥) → same? (u .parent) (v .parent) ≡ true → (r : Bool) → same? (u .start) (v .start) ≡ r
+      → not r ≡ sibling? u v
+  sibling-by some same r h =
+      let e = same?-true (u .parent) (v .parent) same in
+      let o = orphan-first some in
+      sym (rw (same, o, ap (λ (p : Digits). same? p []) (sym e) ∙ o, h) refl)

@@ -56,7 +56,8 @@ order-antisym u v =
 
 pub order-trans : (u v w : Label) → order u v ≡ negsuc 0 → order v w ≡ negsuc 0 → order u w ≡ negsuc 0
 order-trans u v w e f =
-    one-order (u .start) (w .start) _ _ (order-total u w) (before (below-trans (u .start) (v .start) (w .start) (first u v e) (first v w f)))
+    one-order (u .start) (w .start) _ _ (order-total u w)
+    (before (below-trans (u .start) (v .start) (w .start) (first u v e) (first v w f)))
   where
     first : (u v : Label) → order u v ≡ negsuc 0 → Below (u .start) (v .start)
     first u v e = go (order u v) (order-total u v) e

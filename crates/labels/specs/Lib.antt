@@ -1,4 +1,3 @@
 -- Labels and the four questions on two of them, in reading order.
 pub mod Label
 pub mod Questions
-pub mod Words

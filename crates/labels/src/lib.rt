@@ -1,19 +1,20 @@
 // Questions on two labels: order, above, parent, sibling.
 ghost use mathlib.Core.Path.{_≡_};
 ghost use mathlib.Core.Bool.{true, _&&_};
+ghost use Prim.Native.Nat.{_+_, _≤_};
+ghost use lib.ListN.{length};
 ghost use Rattle.answers.specs.Signed.{yesNo};
-ghost use Rattle.labels.specs.Label.{labelOf, sound?};
-ghost use Rattle.labels.specs.Words.{parentWords?};
+ghost use Rattle.codes.specs.Code.{fieldSize};
+ghost use Rattle.codes.specs.Reading.{read, sideOf};
+ghost use Rattle.labels.specs.Label.{fieldAt, labelOf, codeHeld?, parentSound?, sound?};
 ghost use Rattle.labels.specs.Questions.{order as orderOf, above?, parent?, sibling?};
 ghost use Rattle.labels.specs.Questions.{orderAnswer, aboveAnswer, parentAnswer, siblingAnswer};
 use answers::Refusal;
 use codes::Code;
-use codes::Words;
-use codes::words_at;
-use codes::words_below;
-use codes::words_blank;
-use codes::words_packed;
-use codes::words_same;
+use codes::Kind;
+use codes::below;
+use codes::kind_of;
+use codes::same;
 
 // Where a label's fields begin, and how many bytes it has.
 const START: usize = 0;
@@ -74,12 +75,12 @@ fn order_of(u: &[u8], v: &[u8]) -> i32
     requires sound { ⌜ (sound? (now u) ≡ true) × (sound? (now v) ≡ true) ⌝ }
     ensures order { λ r. ⌜ r ≡ orderOf (labelOf (now (u .entry))) (labelOf (now (v .entry))) ⌝ }
 {
-    let x = words_at(u, START);
-    let y = words_at(v, START);
-    if words_below(x, y) {
+    let x = field(u, START);
+    let y = field(v, START);
+    if below(x, y) {
         return -1;
     }
-    if words_below(y, x) {
+    if below(y, x) {
         return 1;
     }
     0
@@ -89,8 +90,8 @@ fn is_above(u: &[u8], v: &[u8]) -> bool
     requires sound { ⌜ (sound? (now u) ≡ true) × (sound? (now v) ≡ true) ⌝ }
     ensures above { λ r. ⌜ r ≡ above? (labelOf (now (u .entry))) (labelOf (now (v .entry))) ⌝ }
 {
-    if words_below(words_at(u, START), words_at(v, START)) {
-        return words_below(words_at(v, END), words_at(u, END));
+    if below(field(u, START), field(v, START)) {
+        return below(field(v, END), field(u, END));
     }
     false
 }
@@ -100,19 +101,19 @@ fn is_parent(u: &[u8], v: &[u8]) -> bool
     requires sound { ⌜ (sound? (now u) ≡ true) × (sound? (now v) ≡ true) ⌝ }
     ensures parent { λ r. ⌜ r ≡ parent? (labelOf (now (u .entry))) (labelOf (now (v .entry))) ⌝ }
 {
-    words_same(words_at(v, PARENT), words_at(u, START))
+    same(field(v, PARENT), field(u, START))
 }
 
+// An empty field begins with a zero byte, and no other does.
 fn is_sibling(u: &[u8], v: &[u8]) -> bool
     requires sound { ⌜ (sound? (now u) ≡ true) × (sound? (now v) ≡ true) ⌝ }
     ensures sibling { λ r. ⌜ r ≡ sibling? (labelOf (now (u .entry))) (labelOf (now (v .entry))) ⌝ }
 {
-    let parent = words_at(u, PARENT);
-    if words_blank(parent) {
+    if u[PARENT] == 0 {
         return false;
     }
-    if words_same(parent, words_at(v, PARENT)) {
-        if words_same(words_at(u, START), words_at(v, START)) {
+    if same(field(u, PARENT), field(v, PARENT)) {
+        if same(field(u, START), field(v, START)) {
             return false;
         }
         return true;
@@ -136,12 +137,12 @@ pub fn sound(label: &[u8]) -> bool
     if label.len() != LABEL {
         return false;
     }
-    let start = words_at(label, START);
-    let end = words_at(label, END);
-    let parent = words_at(label, PARENT);
-    if words_packed(start) {
-        if words_packed(end) {
-            if words_below(start, end) {
+    let start = field(label, START);
+    let end = field(label, END);
+    let parent = field(label, PARENT);
+    if holds_code(start) {
+        if holds_code(end) {
+            if below(start, end) {
                 return parent_sound(parent, start);
             }
         }
@@ -149,15 +150,34 @@ pub fn sound(label: &[u8]) -> bool
     false
 }
 
-// Whether a parent start is empty or a code below a start.
-fn parent_sound(parent: Words, start: Words) -> bool
-    ensures sound { λ r. ⌜ r ≡ parentWords? parent start ⌝ }
+fn holds_code(field: &[u8]) -> bool
+    ensures code { λ r. ⌜ r ≡ codeHeld? (read (now (field .entry))) ⌝ }
 {
-    if words_blank(parent) {
-        return true;
+    match kind_of(field) {
+        Kind::Full => true,
+        Kind::Empty => false,
+        Kind::Unsound => false,
     }
-    if words_packed(parent) {
-        return words_below(parent, start);
+}
+
+// Whether a parent start is empty or a code below a start.
+fn parent_sound(parent: &[u8], start: &[u8]) -> bool
+    requires start { ⌜ codeHeld? (read (now start)) ≡ true ⌝ }
+    ensures sound { λ r. ⌜ r ≡ parentSound? (read (now (parent .entry))) (sideOf (read (now (start .entry)))) ⌝ }
+{
+    match kind_of(parent) {
+        Kind::Full => below(parent, start),
+        Kind::Empty => true,
+        Kind::Unsound => false,
     }
-    false
+}
+
+// The field of a label that begins at a place.
+fn field(label: &[u8], at: usize) -> &[u8]
+    requires inside { ⌜ at + fieldSize ≤ length (now label) ⌝ }
+    ensures part { λ r. ⌜ now r ≡ fieldAt at (now (label .entry)) ⌝ }
+    ensures size { λ r. ⌜ length (now r) ≡ fieldSize ⌝ }
+{
+    let end = at + Code::FIELD;
+    &label[at..end]
 }

@@ -15,13 +15,16 @@ order-of-requires : tie.Need-order-of-requires
 order-of-requires c κs = and-eq-true-iff (sound? _) (sound? _) .0 (sym (c .before .both-sound .ensures) ∙ c .if1 .taken)
 
 returns : tie.Need-returns
-returns c = read-back _ (c .order-of .ok) ∙ c .order-of .ensures ∙ asked-answer _ _ _ (sym (c .before .before .both-sound .ensures) ∙ c .before .if1 .taken)
+returns c = read-back _ (c .order-of .ok) ∙ c .order-of .ensures
+    ∙ asked-answer _ _ _ (sym (c .before .before .both-sound .ensures) ∙ c .before .if1 .taken)
 
 signed-requires : tie.Need-signed-requires
 signed-requires c κs = search needs
 
 returns-2 : tie.Need-returns-2
-returns-2 c = read-back _ (c .signed .ok) ∙ c .signed .ensures ∙ asked-refused _ _ _ (sym (c .before .before .both-sound .ensures) ∙ c .before .if1 .left)
+returns-2 c =
+    read-back _ (c .signed .ok) ∙ c .signed .ensures
+    ∙ asked-refused _ _ _ (sym (c .before .before .both-sound .ensures) ∙ c .before .if1 .left)
 
 pub order-spec : {M : Type 1} → statement M
 order-spec =

@@ -21,13 +21,16 @@ yes-no-requires c κs = search needs
 returns : tie.Need-returns
 returns c =
     let b = c .before .before .before in
-    read-back _ (c .yes-no .ok) ∙ c .yes-no .ensures ∙ ap yesNo (c .before .is-parent .ensures) ∙ asked-answer _ _ _ (sym (b .both-sound .ensures) ∙ c .before .before .if1 .taken)
+    read-back _ (c .yes-no .ok) ∙ c .yes-no .ensures ∙ ap yesNo (c .before .is-parent .ensures)
+    ∙ asked-answer _ _ _ (sym (b .both-sound .ensures) ∙ c .before .before .if1 .taken)
 
 signed-requires : tie.Need-signed-requires
 signed-requires c κs = search needs
 
 returns-2 : tie.Need-returns-2
-returns-2 c = read-back _ (c .signed .ok) ∙ c .signed .ensures ∙ asked-refused _ _ _ (sym (c .before .before .both-sound .ensures) ∙ c .before .if1 .left)
+returns-2 c =
+    read-back _ (c .signed .ok) ∙ c .signed .ensures
+    ∙ asked-refused _ _ _ (sym (c .before .before .both-sound .ensures) ∙ c .before .if1 .left)
 
 pub parent-spec : {M : Type 1} → statement M
 parent-spec =

@@ -1,90 +1,75 @@
 -- `sound` meets its contract: field by field. Assumes nothing.
-use mathlib.Core.Path.{_≡_, sym, _∙_}
+use mathlib.Core.Path.{_≡_, sym, ap, _∙_, subst₂}
 use mathlib.Core.Bool.{Bool}
-use native.Mathlib.Omega.{arith}
+use mathlib.Core.List.{List}
+use Prim.Native.Nat.{ℕ}
 use Rattle.digits.specs.Order.{below?}
-use Rattle.codes.specs.Reading.{read}
-use Rattle.codes.proofs.FieldLaws.{Bytes}
-use Rattle.codes.proofs.WordLaws.{all-bytes}
-use Rattle.codes.proofs.WordsLaws.{words-below}
-use Rattle.labels.specs.Label.{startAt, endAt, parentAt, fieldAt, codeHeld?}
-use Rattle.labels.proofs.LabelLaws.{field-size, sound-size, sound-start, sound-end, sound-span, sound-parent}
-use Rattle.labels.proofs.WordLaws.{field-bytes, words-held, parent-words}
+use Rattle.codes.specs.Reading.{read, sideOf}
+use Rattle.labels.specs.Label.{startAt, endAt, fieldAt, codeHeld?, parentSound?}
+use Rattle.labels.proofs.LabelLaws.{held-size, sound-size, sound-start, sound-end, sound-span, sound-parent}
 use borrow.Author.Needs.{needs}
 use Rattle.labels.proofs.sound.Statement.{statement}
 use Rattle.labels.proofs.sound.Tie as tie
 
--- what is known of the label's bytes, and what the tests on its words say of its fields
-bytes : (c : tie.After-shared-slice-known) → Bytes (c .before .args .label .now)
-bytes c = all-bytes (c .before .args .label .now) (λ i. omega (arith, c .shared-slice-known .given i))
-
-start-held : (c : tie.After-words-packed) (r : Bool) → c .words-packed .result ≡ r
-    → codeHeld? (read (fieldAt startAt (c .before .before .before .before .before .before .args .label .now))) ≡ r
-start-held c r e =
-    let f = c .before .before .before in
-    let b = f .before .before .before .args .label .now in
-    words-held (fieldAt startAt b) (field-size b startAt (omega arith)) (field-bytes b startAt (bytes (f .before .before))) _ _
-    (f .words-at .ensures) (c .words-packed .ensures)
-    ∙ e
-
-end-held : (c : tie.After-words-packed2) (r : Bool) → c .words-packed2 .result ≡ r
-    → codeHeld? (read (fieldAt endAt (c .before .before .before .before .before .before .before .before .args .label .now))) ≡ r
-end-held c r e =
-    let f = c .before .before .before .before in
-    let b = f .before .before .before .before .args .label .now in
-    words-held (fieldAt endAt b) (field-size b endAt (omega arith)) (field-bytes b endAt (bytes (f .before .before .before))) _ _
-    (f .words-at2 .ensures) (c .words-packed2 .ensures)
-    ∙ e
-
-span-held : (c : tie.After-words-below) (r : Bool) → c .words-below .result ≡ r →
-    let b = c .before .before .before .before .before .before .before .before .before .before .args .label .now in
-    below? (fieldAt startAt b) (fieldAt endAt b) ≡ r
-span-held c r e =
-    let f = c .before .before .before .before .before .before in
-    let k = f .before .before in
-    let b = k .before .before .args .label .now in
-    let p = bytes (k .before) in
-    sym
-    (words-below (fieldAt startAt b) (fieldAt endAt b) (field-size b startAt (omega arith)) (field-size b endAt (omega arith))
-    (field-bytes b startAt p) (field-bytes b endAt p))
-    ∙ sym (rw (f .before .words-at .ensures, f .words-at2 .ensures) at (c .words-below .ensures))
-    ∙ e
-
 returns : tie.Need-returns
 returns c = sound-size (c .before .before .args .label .now) (c .if1 .taken)
 
-words-at-requires : tie.Need-words-at-requires
-words-at-requires c κs = search needs
+field-requires : tie.Need-field-requires
+field-requires c κs = search needs
 
-words-at-requires-2 : tie.Need-words-at-requires-2
-words-at-requires-2 c κs = search needs
+field-requires-2 : tie.Need-field-requires-2
+field-requires-2 c κs = search needs
 
-words-at-requires-3 : tie.Need-words-at-requires-3
-words-at-requires-3 c κs = search needs
+field-requires-3 : tie.Need-field-requires-3
+field-requires-3 c κs = search needs
 
-words-packed-requires : tie.Need-words-packed-requires
-words-packed-requires c κs = search needs
+holds-code-requires : tie.Need-holds-code-requires
+holds-code-requires c κs = search needs
 
-words-packed-requires-2 : tie.Need-words-packed-requires-2
-words-packed-requires-2 c κs = search needs
+holds-code-requires-2 : tie.Need-holds-code-requires-2
+holds-code-requires-2 c κs = search needs
 
-words-below-requires : tie.Need-words-below-requires
-words-below-requires c κs = search needs
+-- what the tests on the two codes say of the label
+start-held : (c : tie.After-holds-code) (r : Bool) → c .holds-code .result ≡ r
+    → codeHeld? (read (fieldAt startAt (c .before .before .before .before .before .before .args .label .now))) ≡ r
+start-held c r e =
+    ap (λ (z : List ℕ). codeHeld? (read z)) (sym (c .before .before .before .field .ensures .0))
+    ∙ sym (c .holds-code .ensures) ∙ e
+
+end-held : (c : tie.After-holds-code2) (r : Bool) → c .holds-code2 .result ≡ r
+    → codeHeld? (read (fieldAt endAt (c .before .before .before .before .before .before .before .before .args .label .now))) ≡ r
+end-held c r e =
+    ap (λ (z : List ℕ). codeHeld? (read z)) (sym (c .before .before .before .before .field2 .ensures .0))
+    ∙ sym (c .holds-code2 .ensures) ∙ e
+
+span-held : (c : tie.After-below) (r : Bool) → c .below .result ≡ r →
+    let b = c .before .before .before .before .before .before .before .before .before .before .args .label .now in
+    below? (fieldAt startAt b) (fieldAt endAt b) ≡ r
+span-held c r e =
+    let f = c .before .before .before .before .before in
+    subst₂ (λ (x y : List ℕ). below? x y ≡ r) (f .before .before .field .ensures .0) (f .before .field2 .ensures .0)
+    (sym (c .below .ensures) ∙ e)
+
+below-requires : tie.Need-below-requires
+below-requires c κs =
+    let e = c .before in
+    let s = held-size _ (sym (e .before .before .holds-code .ensures) ∙ e .before .if2 .taken) in
+    (s, held-size _ (sym (e .holds-code2 .ensures) ∙ c .if3 .taken))
 
 parent-sound-requires : tie.Need-parent-sound-requires
-parent-sound-requires c κs = search needs
+parent-sound-requires c κs =
+    let h = c .before .before .before .before in
+    sym (h .before .holds-code .ensures) ∙ h .if2 .taken
 
 returns-2 : tie.Need-returns-2
 returns-2 c =
     let w = c .before .before in
     let h = w .before .before .before .before in
     let f = h .before in
-    let k = f .before .before .before in
-    let b = k .before .before .args .label .now in
-    parent-words (fieldAt parentAt b) (fieldAt startAt b) (field-size b parentAt (omega arith)) (field-size b startAt (omega arith))
-    (field-bytes b parentAt (bytes (k .before))) (field-bytes b startAt (bytes (k .before)))
-    (start-held h _ (w .before .before .before .if2 .taken)) _ _ _ (f .words-at3 .ensures) (f .before .before .words-at .ensures) (c .parent-sound .ensures)
-    ∙ sound-parent b (k .if1 .left) (start-held h _ (w .before .before .before .if2 .taken))
+    let r = c .parent-sound .result in
+    subst₂ (λ (x y : List ℕ). r ≡ parentSound? (read x) (sideOf (read y))) (f .field3 .ensures .0) (f .before .before .field .ensures .0)
+    (c .parent-sound .ensures)
+    ∙ sound-parent _ (f .before .before .before .if1 .left) (start-held h _ (w .before .before .before .if2 .taken))
     (end-held (w .before .before) _ (w .before .if3 .taken)) (span-held w _ (c .before .if4 .taken))
 
 returns-3 : tie.Need-returns-3
@@ -109,12 +94,12 @@ sound-spec =
     tie.close
     (tie.spec
     returns
-    words-at-requires
-    words-at-requires-2
-    words-at-requires-3
-    words-packed-requires
-    words-packed-requires-2
-    words-below-requires
+    field-requires
+    field-requires-2
+    field-requires-3
+    holds-code-requires
+    holds-code-requires-2
+    below-requires
     parent-sound-requires
     returns-2
     returns-3
