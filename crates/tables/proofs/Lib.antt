@@ -2,3 +2,4 @@
 pub mod RowLaws
 pub mod RuleLaws
 pub mod AcceptedLaws
+pub mod Examples
