@@ -1,9 +1,11 @@
-// Runs the calls on codes over the documents' figures and over both sides of each limit, and prints what they answer and leave.
+// Runs the calls on codes and the rules of tables over the documents' figures and over both sides of each limit, and prints what
+// they answer and leave.
 ghost use Prim.Native.Nat.{_+_, _<_, _≤_};
 ghost use lib.ListN.{length};
 use answers::Answer;
 use codes::Code;
 use libc::STDOUT_FILENO;
+use tables::Checked;
 
 // What a lent buffer holds before a call: 5a.
 const FILL: u8 = 90;
@@ -18,6 +20,7 @@ fn main() {
     unpacking();
     betweens();
     packer();
+    table_rules();
 }
 
 // 001, table 3, and P1: first codes, made by the step alone. From open sides on, a cut's two codes are the one code between, and
@@ -258,6 +261,69 @@ fn packer() {
     let three = codes::byte_after(two, 2, 3);
     text(b"packer 223:");
     runs(&[one, two, three]);
+}
+
+// The rules of a table: 01's worked rows, each refusal, two reasons at once, and both sides of each limit.
+fn table_rules() {
+    table(b"table of 01:", &[10, 1, 0, 11, 2, 1, 12, 2, 1, 13, 3, 2]);
+    table(b"table of no rows:", &[0; 0]);
+    table(b"table of four numbers:", &[10, 1, 0, 11]);
+    table(b"table with a first depth of 1:", &[10, 1, 1]);
+    table(b"table with two roots:", &[10, 1, 0, 11, 1, 0]);
+    table(b"table that leaves a depth out:", &[10, 1, 0, 11, 1, 2]);
+    table(b"table with an identity twice:", &[10, 1, 0, 10, 1, 1]);
+    table(b"table with identity 0:", &[0, 1, 0]);
+    table(b"table with identity 0 at a first depth of 1:", &[0, 1, 1]);
+    table(
+        b"table with an identity twice above a depth left out:",
+        &[10, 1, 0, 10, 1, 1, 11, 1, 9],
+    );
+    table_of(b"table of 4096 rows:", 4096, false);
+    table_of(b"table of 4097 rows:", 4097, false);
+    table_of(b"table of 64 rows, each one deeper:", 64, true);
+    table_of(b"table of 65 rows, each one deeper:", 65, true);
+}
+
+// A table of n rows, each a child of the first or each one deeper than the row above.
+fn table_of(name: &[u8], n: u32, deeper: bool)
+    requires few { ⌜ n ≤ 4097 ⌝ }
+{
+    let mut numbers = [0u32; 12291];
+    let mut row = 0;
+    while row < n {
+        let at = 3 * row as usize;
+        numbers[at] = row + 1;
+        numbers[at + 2] = depth(row, deeper);
+        row += 1;
+    }
+    table(name, &numbers[..3 * n as usize]);
+}
+
+fn depth(row: u32, deeper: bool) -> u32 {
+    if deeper {
+        return row;
+    }
+    if row == 0 {
+        return 0;
+    }
+    1
+}
+
+fn table(name: &[u8], numbers: &[u32]) {
+    text(name);
+    match tables::check(numbers) {
+        Checked::Rows(n) => {
+            text(b" rows ");
+            io::print_decimal(STDOUT_FILENO, n as u64);
+        }
+        Checked::Bad(refusal) => {
+            text(b" refused ");
+            io::print_decimal(STDOUT_FILENO, refusal.number() as u64);
+            text(b" row ");
+            io::print_decimal(STDOUT_FILENO, refusal.row() as u64);
+        }
+    }
+    newline();
 }
 
 fn text(bytes: &[u8]) {
