@@ -1,4 +1,4 @@
-// Every public call for a host program in C, as include/plant.h declares it. Each function is thin: it turns an answer into a number.
+// The calls of `codes` and `labels` for a host program in C, as include/plant.h declares them; each turns an answer into a number.
 ghost use mathlib.Core.Path.{_≡_};
 ghost use Rattle.answers.specs.Signed.{signedOf};
 ghost use Rattle.codes.specs.Calls.{packOutcome, unpackOutcome, betweenOutcome};

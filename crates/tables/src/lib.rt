@@ -1,13 +1,12 @@
-// Tables: their rules, and the first labelling.
+// Tables and their rules.
 ghost use mathlib.Core.Path.{_≡_};
 ghost use mathlib.Core.Bool.{true};
 ghost use Prim.Native.Nat.{suc, _*_, _≤_};
 ghost use lib.ListN.{length};
 ghost use Rattle.tables.specs.Table.{mostRows, rowSize, rowsOf};
-ghost use Rattle.identities.specs.Identities.{among?};
 ghost use Rattle.tables.specs.Rules.{depth?, rowsChecked, checkedOf};
 ghost use Rattle.tables.specs.Rows.{HasRow, identityOf, depthOf, depthAt?, freshAt?, above};
-ghost use Rattle.identities.specs.Identities.{Holds};
+ghost use Rattle.identities.specs.Identities.{among?, Holds};
 use answers::Refusal;
 use identities::Entered;
 use identities::PLACES;
