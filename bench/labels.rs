@@ -99,60 +99,62 @@ mod plain {
         std::array::from_fn(|k| u64::from_be_bytes(words[k]))
     }
 
-    // A way to compare two fields.
-    pub trait Compare {
-        fn order(x: &Field, y: &Field) -> Ordering;
-        fn below(x: &Field, y: &Field) -> bool;
-    }
-
-    // As byte arrays.
-    pub struct Bytes;
-
-    // As arrays of four words.
-    pub struct Words;
-
-    // As pairs of numbers of 128 bits.
-    pub struct Wide;
-
-    impl Compare for Bytes {
-        #[inline(always)]
-        fn order(x: &Field, y: &Field) -> Ordering {
-            x.cmp(y)
-        }
-
-        #[inline(always)]
-        fn below(x: &Field, y: &Field) -> bool {
-            x < y
-        }
-    }
-
-    impl Compare for Words {
-        #[inline(always)]
-        fn order(x: &Field, y: &Field) -> Ordering {
-            words(x).cmp(&words(y))
-        }
-
-        #[inline(always)]
-        fn below(x: &Field, y: &Field) -> bool {
-            words(x) < words(y)
-        }
-    }
-
     #[inline(always)]
     fn wide(field: &Field) -> (u128, u128) {
         let [a, b, c, d] = words(field).map(u128::from);
         (a << 64 | b, c << 64 | d)
     }
 
-    impl Compare for Wide {
+    // A way to compare two fields: by what they are read as.
+    pub trait Compare {
+        type Key<'a>: Ord;
+
+        fn key(field: &Field) -> Self::Key<'_>;
+
         #[inline(always)]
         fn order(x: &Field, y: &Field) -> Ordering {
-            wide(x).cmp(&wide(y))
+            Self::key(x).cmp(&Self::key(y))
         }
 
         #[inline(always)]
         fn below(x: &Field, y: &Field) -> bool {
-            wide(x) < wide(y)
+            Self::key(x) < Self::key(y)
+        }
+    }
+
+    // As byte arrays.
+    pub struct Bytes;
+
+    impl Compare for Bytes {
+        type Key<'a> = &'a Field;
+
+        #[inline(always)]
+        fn key(field: &Field) -> &Field {
+            field
+        }
+    }
+
+    // As arrays of four words.
+    pub struct Words;
+
+    impl Compare for Words {
+        type Key<'a> = [u64; 4];
+
+        #[inline(always)]
+        fn key(field: &Field) -> [u64; 4] {
+            words(field)
+        }
+    }
+
+    // As pairs of numbers of 128 bits.
+    pub struct Wide;
+
+    impl Compare for Wide {
+        type Key<'a> = (u128, u128);
+
+        #[inline(always)]
+        fn key(field: &Field) -> (u128, u128) {
+            wide(field)
         }
     }
 

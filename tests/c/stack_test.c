@@ -72,7 +72,7 @@ static void code(uint8_t *field, size_t n, uint8_t last)
         exit(2);
 }
 
-/* Start, end, and no parent start, or the parent's. */
+/* Writes a label's start and end; its parent start is left as it is. */
 static void label(uint8_t *to, size_t start, uint8_t start_last, size_t end, uint8_t end_last)
 {
     code(to, start, start_last);

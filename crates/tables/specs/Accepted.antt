@@ -1,6 +1,6 @@
 -- An accepted table: what 01 asks of it, on the rows as a table of `trees`.
 -- Assumes nothing.
-use mathlib.Core.List.{List, [], _∷_}
+use mathlib.Core.List.{List, map}
 use mathlib.Core.Logic.{_≢_}
 use Prim.Native.Nat.{ℕ, _≤_}
 use lib.ListN.{length}
@@ -11,12 +11,10 @@ use Rattle.tables.specs.Table.{mostRows, deepest, Row}
 
 -- the rows as names with their depths
 abbrev pub named : List Row → List (Name × ℕ)
-named [] = []
-named (r ∷ rs) = (record { identity = r .identity; tag = r .tag }, r .depth) ∷ named rs
+named rows = map (λ r. (record { identity = r .identity; tag = r .tag }, r .depth)) rows
 
 abbrev pub identities : List Row → List ℕ
-identities [] = []
-identities (r ∷ rs) = r .identity ∷ identities rs
+identities rows = map (λ r. r .identity) rows
 
 -- 01, Table: 1 to 4,096 rows, depths by the rule, identities not 0 and all different
 pub record Accepted (rows : List Row) : Type 0 where
