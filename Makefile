@@ -1,7 +1,4 @@
 # make: proves all crates, builds and runs the test program and the C example. make test: the gate. make bench: speed beside Rust.
-CFLAGS = -std=c11 -O1 -g -Wall -Wextra -Werror -Iinclude
-HOST = target/staticlib/libhost.a
-
 .PHONY: run test bench
 
 run:
@@ -9,8 +6,7 @@ run:
 	rt check
 	target/bin/vectors
 	rt staticlib host
-	@mkdir -p target/c
-	gcc $(CFLAGS) examples/labels.c $(HOST) -o target/c/labels
+	tools/cc examples/labels.c
 	target/c/labels
 
 test:
