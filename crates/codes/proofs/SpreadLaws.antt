@@ -2,7 +2,7 @@
 -- Assumes nothing.
 use mathlib.Core.Path.{_≡_, refl, sym, ap, _∙_}
 use mathlib.Core.List.{List, [], _∷_, _++_, append-nil, append-assoc}
-use Prim.Native.Nat.{ℕ, zero, suc, _+_, _-_, _*_, _/_, _%_, _≤_, _<_, Ordering}
+use Prim.Native.Nat.{ℕ, zero, suc, _+_, _-_, _*_, _/_, _%_, _≤_, _<_, compare, Ordering, Ordering·lt, Ordering·eq, Ordering·gt}
 use native.Mathlib.Numerals.{add-one}
 use native.Mathlib.Omega.{arith}
 use lib.ListN.{length, take, drop, getD, set, length-map, length-append, drop-of-length-le}
@@ -11,8 +11,8 @@ use mir.Val.{Val}
 use denote.Laws.{Is}
 use denote.Struct.Declared.{row}
 use Rattle.digits.specs.Order.{Digits}
-use Rattle.digits.specs.Between.{remade, betweenAt, between}
-use Rattle.digits.proofs.OrderLaws.{Compared, compare-is}
+use Rattle.digits.specs.Between.{remade}
+use Rattle.digits.proofs.OrderLaws.{Compared, lt, eq, gt, compared, compare-is}
 use Rattle.digits.proofs.BetweenLaws.{remade-append}
 use Rattle.codes.specs.declared.spread.Code.{Code}
 use Rattle.codes.specs.Field.{quads, spread, lead}
@@ -61,12 +61,27 @@ held-remade f c rest made digit z w fit last shorter e h =
     held-is made (digitsOf rest ++ z) _
     (ap (λ (l : Digits). digitsOf rest ++ l) (sym e) ∙ sym (remade-append f (digitsOf rest) digit) ∙ ap (remade f) (sym x)) h
 
--- the step by the two counts
-pub held-step : (left right made : Code) (o : Ordering) → length (left .digits) ≡ 128 → length (right .digits) ≡ 128
-    → left .count ≤ 128 → right .count ≤ 128 → Compared (left .count) (right .count) o
-    → Held made (betweenAt o (digitsOf left) (digitsOf right)) → Held made (between (digitsOf left) (digitsOf right))
-held-step left right made o v w p q k h =
+-- what is chosen by the two lengths is chosen by the two counts
+pub held-at : (f : Ordering → Digits → Digits → Digits) (left right made : Code) (o : Ordering) → length (left .digits) ≡ 128
+    → length (right .digits) ≡ 128 → left .count ≤ 128 → right .count ≤ 128 → Compared (left .count) (right .count) o
+    → Held made (f o (digitsOf left) (digitsOf right))
+    → Held made (f (compare (length (digitsOf left)) (length (digitsOf right))) (digitsOf left) (digitsOf right))
+held-at f left right made o v w p q k h =
     rw (digits-length left v p, digits-length right w q, compare-is (left .count) (right .count) o k) h
+
+-- and where two choices are the same
+pub held-else : (f : Ordering → Digits → Digits → Digits) (left right made : Code) → length (left .digits) ≡ 128
+    → length (right .digits) ≡ 128 → left .count ≤ 128 → right .count ≤ 128 → (left .count < right .count → ⊥)
+    → Held made (f Ordering·eq (digitsOf left) (digitsOf right))
+    → Held made (f Ordering·gt (digitsOf left) (digitsOf right))
+    → Held made (f (compare (length (digitsOf left)) (length (digitsOf right))) (digitsOf left) (digitsOf right))
+held-else f left right made v w p q k e g = go (compare (left .count) (right .count)) (compared (left .count) (right .count))
+  where
+    go : (o : Ordering) → Compared (left .count) (right .count) o
+        → Held made (f (compare (length (digitsOf left)) (length (digitsOf right))) (digitsOf left) (digitsOf right))
+    go Ordering·lt (lt h) = absurd (k h)
+    go Ordering·eq (eq h) = held-at f left right made Ordering·eq v w p q (eq h) e
+    go Ordering·gt (gt h) = held-at f left right made Ordering·gt v w p q (gt h) g
 
 -- the digit at a place of a field: the byte's, at the place's remainder
 pub slot-spread : (b : List ℕ) (i k : ℕ) → i < 4 * length b → i % 4 ≡ k → getD (quads (getD b (i / 4) 0)) k 0 ≡ getD (spread b) i 0

@@ -16,7 +16,11 @@ pub record Held (c : Code) (x : Digits) : Type 0 where
   pub digits : digitsOf c ≡ x
   pub count : c .count ≡ length x
 
+-- no more digits than a code has
+abbrev pub Short : Code → Type 0
+Short c = c .count ≤ longest
+
 -- at least one digit, and no more than a code has
 pub record Fit (c : Code) : Type 0 where
   pub some : 0 < c .count
-  pub fits : c .count ≤ longest
+  pub fits : Short c

@@ -1,11 +1,12 @@
 // Codes and their packed fields: packing, unpacking, and a code between two codes.
 ghost use mathlib.Core.Path.{_≡_};
-ghost use Prim.Native.Nat.{_≤_};
+ghost use Prim.Native.Nat.{_+_, _≤_};
 ghost use lib.ListN.{length};
 ghost use Rattle.numbers.specs.Bytes.{put};
-ghost use Rattle.codes.specs.Code.{fieldSize, code?};
+ghost use Rattle.codes.specs.Code.{fieldSize, IsCode, code?};
 ghost use Rattle.codes.specs.Field.{fieldOf, Slots};
 ghost use Rattle.codes.specs.Reading.{read, kindOf};
+ghost use Rattle.codes.specs.Spread.{digitsOf};
 ghost use Rattle.codes.specs.Calls.{packOutcome, unpackOutcome, sidesOf, betweenOutcome};
 
 mod field;
@@ -21,6 +22,9 @@ pub use field::same;
 pub use packer::Packer;
 pub use packer::byte_after;
 pub use spread::Code;
+pub use spread::lower_cut;
+pub use spread::step;
+pub use spread::upper_cut;
 
 // The two sides of a gap: in order, one of them no code, or two codes in the wrong order.
 pub enum Sides {
@@ -144,6 +148,17 @@ fn write_field(field: &mut [u8], digits: &[u8])
         field[i / 4] = packer.pending;
         i += 1;
     }
+}
+
+// Writes the field of a code that was made over the bytes from a place on.
+pub fn write_code(buffer: &mut [u8], at: usize, code: Code)
+    requires room { ⌜ at + fieldSize ≤ length (now buffer) ⌝ }
+    requires code { ⌜ IsCode (digitsOf code) ⌝ }
+    ensures bytes { λ _. ⌜ now (buffer .exit) ≡ put (now (buffer .entry)) at (fieldOf (digitsOf code)) ⌝ }
+{
+    let digits = code.digits;
+    let n = code.count;
+    write_field(&mut buffer[at..], &digits[..n]);
 }
 
 // Whether the digits are those of a code.

@@ -4,9 +4,10 @@ ghost use mathlib.Core.List.{_∷_, [], _++_};
 ghost use Prim.Native.Nat.{_-_, _*_, _<_, _≤_};
 ghost use lib.ListN.{length, getD};
 ghost use Rattle.digits.specs.Between.{between, remade, lower, raise};
-ghost use Rattle.codes.specs.Code.{longest, fieldSize};
+ghost use Rattle.digits.specs.Thirds.{first, second, lowerLess};
+ghost use Rattle.codes.specs.Code.{fieldSize};
 ghost use Rattle.codes.specs.Field.{spread, lead};
-ghost use Rattle.codes.specs.Spread.{digitsOf, Held, Fit};
+ghost use Rattle.codes.specs.Spread.{digitsOf, Held, Short, Fit};
 
 // The first count of the digits; the rest counts for nothing. There is room for one more than a code may have.
 pub struct Code {
@@ -20,9 +21,19 @@ impl Code {
 
     pub const FIELD: usize = 32;
 
+    // No digits: an open side.
+    pub fn open() -> Self
+        ensures held { λ r. ⌜ Held r [] ⌝ }
+    {
+        Code {
+            digits: [0; Code::LONGEST + 1],
+            count: 0,
+        }
+    }
+
     // One digit more.
     fn with_last(mut self, digit: u8) -> Self
-        requires room { ⌜ self .count ≤ longest ⌝ }
+        requires room { ⌜ Short self ⌝ }
         ensures held { λ r. ⌜ Held r (digitsOf self ++ (digit ∷ [])) ⌝ }
     {
         let n = self.count;
@@ -62,6 +73,19 @@ impl Code {
         rest.with_last(2)
     }
 
+    // The last digit 2 made 13, or 3 made 23.
+    fn lowered_less(self) -> Self
+        requires code { ⌜ Fit self ⌝ }
+        ensures held { λ r. ⌜ Held r (remade lowerLess (digitsOf self)) ⌝ }
+    {
+        let digit = self.last();
+        let rest = self.without_last();
+        if digit == 2 {
+            return rest.with_last(1).with_last(3);
+        }
+        rest.with_last(2).with_last(3)
+    }
+
     // The last digit 2 made 3, or 3 followed by 2.
     fn raised(self) -> Self
         requires code { ⌜ Fit self ⌝ }
@@ -77,9 +101,9 @@ impl Code {
 }
 
 // The one code between two sides; a side with no digits is open.
-pub(crate) fn step(left: Code, right: Code) -> Code
-    requires left { ⌜ left .count ≤ longest ⌝ }
-    requires right { ⌜ right .count ≤ longest ⌝ }
+pub fn step(left: Code, right: Code) -> Code
+    requires left { ⌜ Short left ⌝ }
+    requires right { ⌜ Short right ⌝ }
     ensures held { λ r. ⌜ Held r (between (digitsOf left) (digitsOf right)) ⌝ }
 {
     if left.count < right.count {
@@ -89,6 +113,30 @@ pub(crate) fn step(left: Code, right: Code) -> Code
         return left.raised();
     }
     left.with_last(2)
+}
+
+// The lower of the two codes that cut a gap in three.
+pub fn lower_cut(left: Code, right: Code) -> Code
+    requires left { ⌜ Short left ⌝ }
+    requires right { ⌜ Short right ⌝ }
+    ensures held { λ r. ⌜ Held r (first (digitsOf left) (digitsOf right)) ⌝ }
+{
+    if left.count < right.count {
+        return right.lowered();
+    }
+    left.with_last(2)
+}
+
+// The upper one.
+pub fn upper_cut(left: Code, right: Code) -> Code
+    requires left { ⌜ Short left ⌝ }
+    requires right { ⌜ Short right ⌝ }
+    ensures held { λ r. ⌜ Held r (second (digitsOf left) (digitsOf right)) ⌝ }
+{
+    if left.count < right.count {
+        return right.lowered_less();
+    }
+    left.with_last(3)
 }
 
 // The digit at place i of a field.

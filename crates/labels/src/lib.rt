@@ -17,13 +17,13 @@ use codes::kind_of;
 use codes::same;
 
 // Where a label's fields begin, and how many bytes it has.
-const START: usize = 0;
+pub const START: usize = 0;
 
-const END: usize = START + Code::FIELD;
+pub const END: usize = START + Code::FIELD;
 
-const PARENT: usize = END + Code::FIELD;
+pub const PARENT: usize = END + Code::FIELD;
 
-const LABEL: usize = PARENT + Code::FIELD;
+pub const LABEL: usize = PARENT + Code::FIELD;
 
 // Minus one, zero or plus one by start. Refuses 11.
 pub fn order(u: &[u8], v: &[u8]) -> i32

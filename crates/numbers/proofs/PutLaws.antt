@@ -2,11 +2,11 @@
 use mathlib.Core.Path.{_≡_, refl, sym, ap, _∙_}
 use mathlib.Core.List.{List, [], _∷_, _++_, append-assoc, append-nil}
 use Prim.Native.Nat.{ℕ, suc, _+_, _-_, _≤_, _<_}
-use native.Mathlib.Nat.{add-zero, add-assoc}
+use native.Mathlib.Nat.{add-zero, zero-add, add-assoc}
 use native.Mathlib.Numerals.{add-one, add-two, add-three}
 use native.Mathlib.Omega.{arith}
 use lib.ListN.{length, take, drop, getD, set, length-append, length-take, length-drop, take-append-drop, drop-of-length-le, List·getD-append, length-set}
-use lib.Seq.{set-append-left, length-take-le, take-append-le, take-at, take-take, take-add, drop-at, drop-append-add, drop-drop, set-split, getD-take, getD-drop, sets, sets-eq}
+use lib.Seq.{set-append-left, length-take-le, take-all, take-append-le, take-at, take-take, take-add, drop-at, drop-append-add, drop-drop, set-split, getD-take, getD-drop, sets, sets-eq}
 use Rattle.numbers.specs.Bytes.{put}
 
 -- nothing put
@@ -30,6 +30,11 @@ put-parts xs at vs e d = rw (e, d)
 pub put-length : (xs : List ℕ) (at : ℕ) (vs : List ℕ) → at + length vs ≤ length xs → length (put xs at vs) ≡ length xs
 unfolding put
 put-length xs at vs fits = simp (length-append, length-take, length-drop) (omega arith)
+
+-- a run may go over the end, never does it take away
+pub put-grows : (xs : List ℕ) (at : ℕ) (vs : List ℕ) → at ≤ length xs → length xs ≤ length (put xs at vs)
+unfolding put
+put-grows xs at vs h = simp (length-append, length-take, length-drop) (omega arith)
 
 module _ (xs : List ℕ) (at : ℕ) (vs : List ℕ) (room : at ≤ length xs) where
   -- the part before the run, the run, and the part after it
@@ -75,6 +80,44 @@ module _ (xs : List ℕ) (at : ℕ) (vs : List ℕ) (room : at ≤ length xs) wh
   pub put-same-place : (ws : List ℕ) → length vs ≡ length ws → put (put xs at vs) at ws ≡ put xs at ws
   unfolding put
   put-same-place ws e = put-parts (put xs at vs) at ws (take-put at (omega arith)) (drop-put (at + length ws) (omega arith))
+
+-- a run put at the front of the elements from at on
+pub put-tail : (xs : List ℕ) (at : ℕ) (vs : List ℕ)
+    → take at xs ++ (put (take (length xs - at) (drop at xs)) 0 vs ++ drop (length xs - at) (drop at xs)) ≡ put xs at vs
+unfolding put
+put-tail xs at vs =
+    let l : length (drop at xs) ≡ length xs - at = length-drop at xs in
+    let t : take (length xs - at) (drop at xs) ≡ drop at xs = take-all (length xs - at) (drop at xs) (omega arith) in
+    let e : drop (length xs - at) (drop at xs) ≡ [] = drop-of-length-le (drop at xs) {i = length xs - at} (omega arith) in
+    rw (t, e, append-nil, zero-add, drop-drop (length vs) at xs) refl
+
+-- a run at the front: what it begins with, what stands in its middle, and another middle of the same length put in its place
+put-front : (b A B C : List ℕ) → put b 0 (A ++ (B ++ C)) ≡ A ++ (B ++ (C ++ drop (length (A ++ (B ++ C))) b))
+unfolding put
+put-front b A B C = rw zero-add (simp append-assoc)
+
+module _ (b A B C : List ℕ) where
+  pub run-inside : take (length B) (drop (length A) (put b 0 (A ++ (B ++ C)))) ≡ B
+  run-inside =
+      let D : List ℕ = drop (length (A ++ (B ++ C))) b in
+      rw (put-front b A B C, drop-at A (B ++ (C ++ D)) (length A) refl) (take-at B (C ++ D) (length B) refl)
+
+  pub put-inside : (B′ : List ℕ) → length B ≡ length B′ → put (put b 0 (A ++ (B ++ C))) (length A) B′ ≡ put b 0 (A ++ (B′ ++ C))
+  put-inside B′ e =
+      let D : List ℕ = drop (length (A ++ (B ++ C))) b in
+      let n : length (A ++ (B′ ++ C)) ≡ length (A ++ (B ++ C)) = simp length-append (omega arith) in
+      let d : drop (length A + length B′) (A ++ (B ++ (C ++ D))) ≡ C ++ D =
+      drop-append-add A (B ++ (C ++ D)) (length B′) ∙ drop-at B (C ++ D) (length B′) e in
+      rw (put-front b A B C, put-front b A B′ C, n)
+      (put-parts (A ++ (B ++ (C ++ D))) (length A) B′ (take-at A (B ++ (C ++ D)) (length A) refl) d)
+
+-- a run put in front of another
+pub put-under : (xs : List ℕ) (at : ℕ) (vs ws : List ℕ) → at + length vs ≤ length xs
+    → put (put xs (at + length vs) ws) at vs ≡ put xs at (vs ++ ws)
+unfolding put
+put-under xs at vs ws room =
+    put-parts (put xs (at + length vs) ws) at vs (take-put xs (at + length vs) ws room at (omega arith))
+    (put-rest xs (at + length vs) ws room) ∙ simp (append-assoc, length-append, add-assoc)
 
 -- a store is a run of one, and stores one after another are a run
 pub put-one : (xs : List ℕ) (at v : ℕ) → at < length xs → set xs at v ≡ put xs at (v ∷ [])

@@ -14,9 +14,10 @@ use Rattle.answers.specs.declared.Refusal.{Refusal}
 use Rattle.identities.specs.Identities.{among?}
 use Rattle.trees.specs.Table.{Later, Follow, rows, forest}
 use Rattle.trees.proofs.TableLaws.{ruled-rows}
+use Rattle.registers.specs.Layout.{deepest}
 use Rattle.tables.specs.declared.Checked.{Checked}
 use Rattle.tables.specs.declared.Checked.the-variants.{Rows, Bad}
-use Rattle.tables.specs.Table.{mostRows, deepest, rowSize, Row, rowsOf}
+use Rattle.tables.specs.Table.{mostRows, rowSize, Row, rowsOf}
 use Rattle.tables.specs.Rules.{size?, depth?, fresh?, rowsFrom, rowsChecked, checkedOf}
 use Rattle.tables.specs.Accepted.{named, identities, Accepted}
 use Rattle.tables.proofs.RowLaws.{rows-length}

@@ -3,3 +3,7 @@ pub mod RowLaws
 pub mod RuleLaws
 pub mod AcceptedLaws
 pub mod Examples
+pub mod WalkLaws
+pub mod GapLaws
+pub mod TourLaws
+pub mod LabelLaws

@@ -9,9 +9,10 @@ use lib.Dec.{eqb, leb, leb·suc-suc}
 use lib.ListN.{length, drop}
 use borrow.Author.Tests.{eqb-true, eq-eqb, ne-eqb, le-leb, lt-leb}
 use Rattle.answers.specs.declared.Refusal.the-variants.{TableSize, RowDepth, RowIdentity}
+use Rattle.registers.specs.Layout.{deepest}
 use Rattle.tables.specs.declared.Checked.{Checked}
 use Rattle.tables.specs.declared.Checked.the-variants.{Rows, Bad}
-use Rattle.tables.specs.Table.{mostRows, deepest, rowSize, rowsOf}
+use Rattle.tables.specs.Table.{mostRows, rowSize, rowsOf}
 use Rattle.identities.specs.Identities.{among?}
 use Rattle.tables.specs.Rules.{depth?, fresh?, identityAt, rowsFrom, rowsChecked, checkedOf}
 use Rattle.tables.specs.Rows.{identityOf, depthOf, depthAt?, freshAt?, above, checkedFrom}

@@ -7,7 +7,8 @@ use lib.ListN.{length}
 use Rattle.digits.specs.Lists.{All, Distinct}
 use Rattle.trees.specs.Table.{Ruled}
 use Rattle.trees.specs.Labelled.{Name}
-use Rattle.tables.specs.Table.{mostRows, deepest, Row}
+use Rattle.registers.specs.Layout.{deepest}
+use Rattle.tables.specs.Table.{mostRows, Row}
 
 -- the rows as names with their depths
 abbrev pub named : List Row → List (Name × ℕ)

@@ -7,9 +7,10 @@ use lib.Dec.{eqb, leb}
 use lib.ListN.{length}
 use Rattle.answers.specs.declared.Refusal.the-variants.{TableSize, RowDepth, RowIdentity}
 use Rattle.identities.specs.Identities.{among?}
+use Rattle.registers.specs.Layout.{deepest}
 use Rattle.tables.specs.declared.Checked.{Checked}
 use Rattle.tables.specs.declared.Checked.the-variants.{Rows, Bad}
-use Rattle.tables.specs.Table.{mostRows, deepest, rowSize, Row, rowsOf}
+use Rattle.tables.specs.Table.{mostRows, rowSize, Row, rowsOf}
 
 -- 01, refusal 1: 0 or more than 4,096 rows, or not a whole number of rows
 abbrev pub size? : List ℕ → Bool

@@ -2,14 +2,11 @@
 -- Assumes nothing.
 use mathlib.Core.List.{List, [], _∷_}
 use Prim.Native.Nat.{ℕ}
+use Rattle.registers.specs.Layout.{mostEntries}
 
--- 01, Table: the largest number of rows
+-- 01, Table: as many rows as a register has entries
 abbrev pub mostRows : ℕ
-mostRows = 4096
-
--- 01, Table: the largest depth
-abbrev pub deepest : ℕ
-deepest = 63
+mostRows = mostEntries
 
 -- 01, Table: identity, tag, depth
 abbrev pub rowSize : ℕ

@@ -1,19 +1,26 @@
-// Tables and their rules.
+// Tables: their rules, and the first labelling of their rows.
 ghost use mathlib.Core.Path.{_≡_};
 ghost use mathlib.Core.Bool.{true};
 ghost use Prim.Native.Nat.{suc, _*_, _≤_};
 ghost use lib.ListN.{length};
 ghost use Rattle.tables.specs.Table.{mostRows, rowSize, rowsOf};
 ghost use Rattle.tables.specs.Rules.{depth?, rowsChecked, checkedOf};
-ghost use Rattle.tables.specs.Rows.{HasRow, identityOf, depthOf, depthAt?, freshAt?, above};
+ghost use Rattle.tables.specs.Labelling.{labelOutcome};
+ghost use Rattle.tables.specs.Rows.{HasRow, identityOf, tagOf, depthOf, depthAt?, freshAt?, above};
 ghost use Rattle.identities.specs.Identities.{among?, Holds};
+
+mod walk;
+
+use answers::Answer;
 use answers::Refusal;
+use codes::Code;
 use identities::Entered;
 use identities::PLACES;
-
-const MOST_ROWS: usize = 4096;
-
-const DEEPEST: u32 = 63;
+use registers::DEEPEST;
+use registers::ENTRY;
+use registers::HEADER;
+use registers::MOST;
+use walk::Cursor;
 
 // The numbers of a row: identity, tag, depth.
 const ROW: usize = 3;
@@ -22,6 +29,41 @@ const ROW: usize = 3;
 pub enum Checked {
     Rows(usize),
     Bad(Refusal),
+}
+
+// Writes the register of a table, with first codes, and answers its bytes. Refuses 1, 2, 3, 4.
+pub fn label(table: &[u32], register: &mut [u8]) -> Answer
+    ensures answer { λ r. ⌜ r ≡ labelOutcome (now (table .entry)) (now (register .entry)) .answer ⌝ }
+    ensures bytes { λ _. ⌜ now (register .exit) ≡ labelOutcome (now (table .entry)) (now (register .entry)) .bytes ⌝ }
+{
+    match check(table) {
+        Checked::Bad(refusal) => Answer::Refused(refusal),
+        Checked::Rows(n) => label_rows(table, n, register),
+    }
+}
+
+// The register of an accepted table.
+fn label_rows(table: &[u32], n: usize, register: &mut [u8]) -> Answer
+    requires accepted { ⌜ checkedOf (now table) ≡ Checked.Rows n ⌝ }
+    ensures answer { λ r. ⌜ r ≡ labelOutcome (now (table .entry)) (now (register .entry)) .answer ⌝ }
+    ensures bytes { λ _. ⌜ now (register .exit) ≡ labelOutcome (now (table .entry)) (now (register .entry)) .bytes ⌝ }
+{
+    let size = HEADER + ENTRY * n;
+    if register.len() < size {
+        return Answer::Refused(Refusal::Room);
+    }
+    registers::write_header(register, n);
+    let mut path = [0usize; DEEPEST as usize + 1];
+    walk::gap(
+        table,
+        register,
+        &mut path,
+        Cursor { row: 0, level: 0 },
+        Code::open(),
+        Code::open(),
+        2 * n + 1,
+    );
+    Answer::Accepted(size)
 }
 
 // Goes through a table by its rules. Refuses 1, 2, 3.
@@ -35,7 +77,7 @@ pub fn check(table: &[u32]) -> Checked
     if n < 1 {
         return Checked::Bad(Refusal::TableSize);
     }
-    if MOST_ROWS < n {
+    if MOST < n {
         return Checked::Bad(Refusal::TableSize);
     }
     check_rows(table, n)
@@ -123,6 +165,13 @@ fn identity_of(table: &[u32], i: usize) -> u32
     ensures identity { λ r. ⌜ r ≡ identityOf (now (table .entry)) i ⌝ }
 {
     table[ROW * i]
+}
+
+fn tag_of(table: &[u32], i: usize) -> u32
+    requires row { ⌜ HasRow (now table) i ⌝ }
+    ensures tag { λ r. ⌜ r ≡ tagOf (now (table .entry)) i ⌝ }
+{
+    table[ROW * i + 1]
 }
 
 fn depth_of(table: &[u32], i: usize) -> u32

@@ -188,13 +188,13 @@ module _ {A : Type 0} where
       rw (compare-is (p .1) 0 Ordering·eq (eq (h .0)), inner-forest deepest t (follow-steps deepest (p .1) t (h .1) .1))
 
   -- .. and at most deepest + 1 levels
+  pub ruled-bounded : (deepest : ℕ) (t : List (A × ℕ)) → Ruled deepest t → All (λ q. q .1 < suc deepest) t
+  ruled-bounded deepest [] h = tt
+  ruled-bounded deepest (p ∷ t) h =
+      (omega arith, all-map (Inner deepest) (λ q. q .1 < suc deepest) (λ q i. omega arith) t (follow-steps deepest (p .1) t (h .1) .1))
+
   pub ruled-height : (deepest : ℕ) (t : List (A × ℕ)) → Ruled deepest t → Height (suc deepest) (forest t)
-  ruled-height deepest [] h = tt
-  ruled-height deepest (p ∷ t) h =
-      let a =
-      all-map (Inner deepest) (λ q. q .1 < suc deepest) (λ q i. omega arith) t (follow-steps deepest (p .1) t (h .1) .1)
-      in
-      rw sub-zero at (table-height (suc deepest) 0 (p ∷ t) (omega arith, a))
+  ruled-height deepest t h = rw sub-zero at (table-height (suc deepest) 0 t (ruled-bounded deepest t h))
 
   -- the other way round: the rows of a tree of so many levels meet the rule
   pub rows-ruled : (deepest : ℕ) (f : Forest A) → Rooted f → Height (suc deepest) f → Ruled deepest (rows 0 f)

@@ -1,0 +1,4 @@
+-- A register's layout, its entries as bytes and as read, and what it holds, in reading order. Assumes nothing.
+pub mod Layout
+pub mod Entries
+pub mod Holds
