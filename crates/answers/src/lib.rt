@@ -1,11 +1,14 @@
 // What a call answers: a number where it is accepted, or why it is refused.
 ghost use mathlib.Core.Path.{_≡_};
-ghost use Prim.Native.Nat.{_≤_};
+ghost use Prim.Native.Nat.{_^_, _≤_, _<_};
 ghost use Rattle.answers.specs.Number.{numberOf, rowOf};
-ghost use Rattle.answers.specs.Signed.{refusedAs, signedOf, Signable};
+ghost use Rattle.answers.specs.Signed.{refusedAs, signedOf, Signable, withRow, signedRowOf, SignableRow};
 
 // Above every refusal number of the host program.
 const REFUSED: i32 = -100000;
+
+// What a row counts in the answer of a call that answers rows.
+const EACH_ROW: u64 = 1000000;
 
 // A case for each reason of 01's table of refusals; a row of a table stands with the cases that answer one.
 pub enum Refusal {
@@ -61,6 +64,15 @@ impl Refusal {
         REFUSED - self.number() as i32
     }
 
+    // The same with the row: -(100,000 + the number + 1,000,000 times the row).
+    pub fn signed_row(self) -> i64
+        requires small { ⌜ rowOf self < 2 ^ 32 ⌝ }
+        ensures signed { λ r. ⌜ r ≡ refusedAs (withRow self) ⌝ }
+    {
+        let number = self.number() as u64 + EACH_ROW * self.row() as u64;
+        REFUSED as i64 - number as i64
+    }
+
     // The row that is answered with it, from 0; 0 where none is.
     pub fn row(self) -> usize
         ensures row { λ r. ⌜ r ≡ rowOf self ⌝ }
@@ -93,6 +105,17 @@ impl Answer {
         match self {
             Answer::Accepted(n) => n as i32,
             Answer::Refused(refusal) => refusal.signed(),
+        }
+    }
+
+    // The same for a call that answers rows.
+    pub fn signed_row(self) -> i64
+        requires small { ⌜ SignableRow self ⌝ }
+        ensures signed { λ r. ⌜ r ≡ signedRowOf self ⌝ }
+    {
+        match self {
+            Answer::Accepted(n) => n as i64,
+            Answer::Refused(refusal) => refusal.signed_row(),
         }
     }
 }

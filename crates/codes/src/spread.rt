@@ -1,7 +1,7 @@
 // A code spread out as digits, by value, and the step between two such codes.
 ghost use mathlib.Core.Path.{_≡_};
 ghost use mathlib.Core.List.{_∷_, [], _++_};
-ghost use Prim.Native.Nat.{_-_, _*_, _<_, _≤_};
+ghost use Prim.Native.Nat.{_-_, _*_, _<_};
 ghost use lib.ListN.{length, getD};
 ghost use Rattle.digits.specs.Between.{between, remade, lower, raise};
 ghost use Rattle.digits.specs.Thirds.{first, second, lowerLess};

@@ -1,7 +1,8 @@
-// The calls of `codes` and `labels` for a host program in C, as include/plant.h declares them; each turns an answer into a number.
+// The calls of `codes`, `labels` and `tables` for a host program in C, as include/plant.h declares them; each turns an answer into a number.
 ghost use mathlib.Core.Path.{_≡_};
-ghost use Rattle.answers.specs.Signed.{signedOf};
+ghost use Rattle.answers.specs.Signed.{signedOf, signedRowOf};
 ghost use Rattle.codes.specs.Calls.{packOutcome, unpackOutcome, betweenOutcome};
+ghost use Rattle.tables.specs.Labelling.{labelOutcome};
 ghost use Rattle.labels.specs.Questions.{orderAnswer, aboveAnswer, parentAnswer, siblingAnswer};
 use codes::Code;
 
@@ -55,4 +56,12 @@ pub extern "C" fn plant_between(left: &[u8], right: &[u8], field: &mut [u8]) -> 
     ensures bytes { λ _. ⌜ now (field .exit) ≡ betweenOutcome (now (left .entry)) (now (right .entry)) (now (field .entry)) .bytes ⌝ }
 {
     Code::between(left, right, field).signed()
+}
+
+#[no_mangle]
+pub extern "C" fn plant_label(table: &[u32], register: &mut [u8]) -> i64
+    ensures answer { λ r. ⌜ r ≡ signedRowOf (labelOutcome (now (table .entry)) (now (register .entry)) .answer) ⌝ }
+    ensures bytes { λ _. ⌜ now (register .exit) ≡ labelOutcome (now (table .entry)) (now (register .entry)) .bytes ⌝ }
+{
+    tables::label(table, register).signed_row()
 }

@@ -90,16 +90,23 @@ right row previous used (r ∷ rs) n e =
     with-first previous used r rs (later previous (r .depth) (p .0)) (new (r .identity) used (q .0))
     (right (suc row) (r .depth) (r .identity ∷ used) rs n (q .1))
 
+-- 01, refusal 1, not given: 1 to 4,096 rows
+pub size-bounds : (t : List ℕ) → size? t ≡ true → (1 ≤ length (rowsOf t)) × (length (rowsOf t) ≤ mostRows)
+size-bounds t h =
+    let a = and-eq-true-iff (eqb (length t % rowSize) 0) _ .0 h in
+    let b = and-eq-true-iff (leb 1 (length t / rowSize)) (leb (length t / rowSize) mostRows) .0 (a .1) in
+    let s = leb-true 1 (length t / rowSize) (b .0) in
+    let m = leb-true (length t / rowSize) mostRows (b .1) in
+    let e = rows-length t in
+    (omega arith, omega arith)
+
 -- demand 2's "any accepted table": what the call accepts is 01's table
 pub accepted : (t : List ℕ) (n : ℕ) → checkedOf t ≡ Rows n → Accepted (rowsOf t)
 unfolding checkedOf
 accepted t n e =
     let p = passed (size? t) _ _ n e in
-    let a = and-eq-true-iff (eqb (length t % rowSize) 0) _ .0 (p .0) in
-    let b = and-eq-true-iff (leb 1 (length t / rowSize)) (leb (length t / rowSize) mostRows) .0 (a .1) in
-    let s = leb-true 1 (length t / rowSize) (b .0) in
-    let m = leb-true (length t / rowSize) mostRows (b .1) in
-    go (rowsOf t) (omega (arith, rows-length t)) (omega (arith, rows-length t)) (p .1)
+    let b = size-bounds t (p .0) in
+    go (rowsOf t) (b .0) (b .1) (p .1)
   where
     go : (rs : List Row) → 1 ≤ length rs → length rs ≤ mostRows → rowsChecked rs ≡ Rows n → Accepted rs
     go [] s m e = absurd (omega arith)

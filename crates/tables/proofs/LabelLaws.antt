@@ -1,11 +1,11 @@
 -- The first labelling of an accepted table: what the walk starts from, and that it leaves the register of the labelled tree.
 -- Assumes nothing.
-use mathlib.Core.Path.{_≡_, refl, sym, ap, _∙_, subst}
-use mathlib.Core.List.{List, [], _∷_, _++_, append-nil}
-use Prim.Native.Nat.{ℕ, zero, suc, _+_, _*_, _^_, _≤_, _<_}
+use mathlib.Core.Path.{_≡_, refl, sym, ap, _∙_}
+use mathlib.Core.List.{List, [], _++_, append-nil}
+use Prim.Native.Nat.{ℕ, zero, suc, _+_, _*_, _≤_, _<_}
 use native.Mathlib.Nat.{add-zero}
 use native.Mathlib.Omega.{arith}
-use lib.ListN.{length, drop, getD, replicate}
+use lib.ListN.{length, getD, replicate}
 use lib.Seq.{getD-drop}
 use borrow.Author.Tests.{le-leb, lt-leb}
 use Rattle.digits.specs.Lists.{All}
@@ -20,9 +20,9 @@ use Rattle.answers.specs.Outcome.{accepted as taken, refused}
 use Rattle.numbers.specs.Bytes.{put, le4}
 use Rattle.numbers.proofs.PutLaws.{put-grows}
 use Rattle.codes.specs.Code.{IsCode}
-use Rattle.trees.specs.Forest.{Forest, size, preorder}
+use Rattle.trees.specs.Forest.{size, preorder}
 use Rattle.trees.specs.Table.{rows, forest}
-use Rattle.trees.specs.Labelled.{Name, Entry, plain, codes, labelled}
+use Rattle.trees.specs.Labelled.{Name, plain, codes, labelled}
 use Rattle.trees.proofs.TableLaws.{length-rows, ruled-bounded}
 use Rattle.trees.proofs.ForestLaws.{length-preorder}
 use Rattle.trees.proofs.LabelledLaws.{codes-labelled, plain-labelled, size-labelled, parents-fill}

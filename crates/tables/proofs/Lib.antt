@@ -7,3 +7,4 @@ pub mod WalkLaws
 pub mod GapLaws
 pub mod TourLaws
 pub mod LabelLaws
+pub mod SignableLaws

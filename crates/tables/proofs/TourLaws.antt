@@ -1,17 +1,14 @@
 -- The walk along the codes of a labelled forest, over the rows of its plain forest, leaves the forest's entries. Assumes nothing.
 use mathlib.Core.Path.{_≡_, refl, sym, ap, _∙_, subst}
-use mathlib.Core.Logic.{_⊎_, inl, inr}
 use mathlib.Core.Bool.{Bool, true, false}
 use mathlib.Core.List.{List, [], _∷_, _++_, map, append-assoc, append-nil}
-use Prim.Native.Nat.{ℕ, zero, suc, _+_, _*_, _-_, _/_, _≤_, _<_}
+use Prim.Native.Nat.{ℕ, zero, suc, _+_, _-_, _≤_, _<_}
 use native.Mathlib.Numerals.{add-one}
 use native.Mathlib.Omega.{arith}
-use native.Mathlib.Decide.{ℕ-discrete}
 use lib.Dec.{eqb, ltb}
 use lib.ListN.{length, take, drop, getD, set, length-append, length-map, drop-of-length-le}
 use lib.Seq.{getD-take, getD-set-same, take-take, take-set-le}
 use borrow.Author.Tests.{ltb-true, ltb-false, ne-eqb, eq-eqb}
-use Rattle.digits.specs.Lists.{All}
 use Rattle.digits.specs.Order.{Digits}
 use Rattle.numbers.specs.Bytes.{put, le4}
 use Rattle.numbers.proofs.PutLaws.{put-put}
@@ -19,15 +16,15 @@ use Rattle.codes.specs.Field.{fieldOf}
 use Rattle.labels.specs.Label.{fieldAt}
 use Rattle.trees.specs.Forest.{Forest, nil, node, preorder}
 use Rattle.trees.specs.Table.{rows}
-use Rattle.trees.specs.Tour.{tour, Parents}
-use Rattle.trees.specs.Labelled.{Name, Entry, starts, ends, parents, plain, codes}
+use Rattle.trees.specs.Tour.{Parents}
+use Rattle.trees.specs.Labelled.{Name, Entry, starts, parents, plain, codes}
 use Rattle.registers.specs.Layout.{entryPlace, startPlace, endPlace}
 use Rattle.registers.specs.Entries.{entryBytes, entriesBytes}
 use Rattle.registers.proofs.EntryLaws.{entries-append, entries-length, start-found, end-put}
-use Rattle.tables.specs.Table.{rowSize, Row, rowsOf}
+use Rattle.tables.specs.Table.{Row, rowsOf}
 use Rattle.tables.specs.Rows.{identityOf, tagOf, depthOf}
 use Rattle.tables.specs.Accepted.{named}
-use Rattle.tables.specs.Walk.{Walk, rowCount, starts?, innermost, parentField, begunBytes, entered, left, stepped, walked, Ready}
+use Rattle.tables.specs.Walk.{Walk, rowCount, starts?, innermost, parentField, begunBytes, entered, stepped, walked, Ready}
 use Rattle.tables.proofs.RowLaws.{rows-length, rows-next}
 use Rattle.tables.proofs.WalkLaws.{starts-inside, starts-behind, stepped-start, stepped-end, walked-cut, parent-none, parent-some, ready-entered, ready-left}
 

@@ -1,12 +1,12 @@
 -- Laws of the walk along the tour: what it keeps, its parts, and the bytes of an entry that is begun.
 -- Assumes nothing.
-use mathlib.Core.Path.{_≡_, refl, sym, ap, _∙_}
-use mathlib.Core.Bool.{Bool, true, false, cond, _&&_, and-eq-true-iff}
+use mathlib.Core.Path.{_≡_, refl, ap, _∙_}
+use mathlib.Core.Bool.{Bool, true, false, cond, and-eq-true-iff}
 use mathlib.Core.List.{List, [], _∷_, _++_, append-assoc}
-use Prim.Native.Nat.{ℕ, zero, suc, _+_, _*_, _-_, _/_, _≤_, _<_}
+use Prim.Native.Nat.{ℕ, _+_, _-_, _≤_, _<_}
 use native.Mathlib.Omega.{arith}
 use lib.Dec.{eqb, ltb}
-use lib.ListN.{length, getD, set, length-append, length-set}
+use lib.ListN.{length, length-append, length-set}
 use borrow.Author.Tests.{ltb-true, eqb-true, eqb-false, ne-eqb, lt-ltb, le-ltb}
 use Rattle.digits.specs.Lists.{All}
 use Rattle.digits.specs.Order.{Digits}
@@ -17,7 +17,7 @@ use Rattle.codes.specs.Field.{fieldOf}
 use Rattle.codes.proofs.FieldLaws.{field-length}
 use Rattle.labels.specs.Label.{fieldAt}
 use Rattle.registers.specs.Layout.{deepest, entryPlace, startPlace, parentPlace, endPlace, HasPlace}
-use Rattle.tables.specs.Table.{mostRows, rowSize}
+use Rattle.tables.specs.Table.{mostRows}
 use Rattle.tables.specs.Rows.{HasRow, identityOf, tagOf, depthOf}
 use Rattle.tables.specs.Walk.{Walk, rowCount, starts?, innermost, parentField, begunBytes, entered, left, stepped, walked, Ready}
 

@@ -1,5 +1,6 @@
 -- `plant_unpack` meets its contract: the call's answer as a number, and the call's bytes. Assumes nothing.
 use mathlib.Core.Path.{sym, ap, _∙_, subst}
+use mir.Syntax.{w32}
 use Rattle.answers.specs.Signed.{signedOf, Signable}
 use Rattle.answers.proofs.SignedLaws.{read-back}
 use Rattle.codes.proofs.SignableLaws.{unpack-signable}
@@ -19,7 +20,7 @@ same-length c = search needs
 returns : tie.Need-returns
 returns c =
     let p = c .before .before .before .unpack in
-    (read-back _ (c .signed .ok) ∙ c .signed .ensures ∙ ap signedOf (p .ensures .0), p .ensures .1)
+    (read-back w32 _ (c .signed .ok) ∙ c .signed .ensures ∙ ap signedOf (p .ensures .0), p .ensures .1)
 
 pub plant-unpack-spec : {M : Type 1} → statement M
 plant-unpack-spec = tie.close (tie.spec unpack-requires signed-requires same-length returns)

@@ -1,6 +1,7 @@
 -- `parent` meets its contract: the answer where both labels are sound, and else the refusal. Assumes nothing.
 use mathlib.Core.Path.{sym, ap, _∙_}
 use mathlib.Core.Bool.{and-eq-true-iff}
+use mir.Syntax.{w32}
 use Rattle.answers.specs.Signed.{yesNo}
 use Rattle.answers.proofs.SignedLaws.{read-back}
 use Rattle.labels.specs.Label.{sound?}
@@ -21,7 +22,7 @@ yes-no-requires c κs = search needs
 returns : tie.Need-returns
 returns c =
     let b = c .before .before .before in
-    read-back _ (c .yes-no .ok) ∙ c .yes-no .ensures ∙ ap yesNo (c .before .is-parent .ensures)
+    read-back w32 _ (c .yes-no .ok) ∙ c .yes-no .ensures ∙ ap yesNo (c .before .is-parent .ensures)
     ∙ asked-answer _ _ _ (sym (b .both-sound .ensures) ∙ c .before .before .if1 .taken)
 
 signed-requires : tie.Need-signed-requires
@@ -29,7 +30,7 @@ signed-requires c κs = search needs
 
 returns-2 : tie.Need-returns-2
 returns-2 c =
-    read-back _ (c .signed .ok) ∙ c .signed .ensures
+    read-back w32 _ (c .signed .ok) ∙ c .signed .ensures
     ∙ asked-refused _ _ _ (sym (c .before .before .both-sound .ensures) ∙ c .before .if1 .left)
 
 pub parent-spec : {M : Type 1} → statement M

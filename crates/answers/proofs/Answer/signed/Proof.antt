@@ -26,7 +26,7 @@ returns c =
     toZ-pos w32 (accepted-small _ _ e (c .before .before .before .pre)) ∙ sym (ap signedOf e)
 
 returns-2 : tie.Need-returns-2
-returns-2 c = read-back _ (c .signed .ok) ∙ c .signed .ensures ∙ sym (ap signedOf (c .before .before .self2 .given .1))
+returns-2 c = read-back w32 _ (c .signed .ok) ∙ c .signed .ensures ∙ sym (ap signedOf (c .before .before .self2 .given .1))
 
 pub signed-spec : {M : Type 1} → statement M
 signed-spec =

@@ -1,6 +1,6 @@
 -- The proof of the cycle of calls {gap}. The measure is the gap's width. The parts are walked from left to right, so that
 -- `walked-parts` makes one walk of the five. Assumes nothing.
-use mathlib.Core.Path.{_≡_, sym, ap, _∙_, subst}
+use mathlib.Core.Path.{sym, ap, _∙_, subst}
 use mathlib.Core.List.{List}
 use Prim.Native.Nat.{ℕ, _≤_, _<_}
 use native.Mathlib.Omega.{arith}
