@@ -2,6 +2,9 @@
 //
 // Each call on either side passes one boundary that is not inlined, and checks its inputs anew. Where good Rust can be
 // written in more than one way, every way is timed and the fastest is the baseline.
+mod random;
+
+use random::Random;
 use std::cmp::Ordering;
 use std::collections::BTreeSet;
 use std::hint::black_box;
@@ -387,22 +390,7 @@ mod plain {
     }
 }
 
-// SplitMix64.
-struct Random(u64);
-
 impl Random {
-    fn next(&mut self) -> u64 {
-        self.0 = self.0.wrapping_add(0x9E37_79B9_7F4A_7C15);
-        let mut z = self.0;
-        z = (z ^ z >> 30).wrapping_mul(0xBF58_476D_1CE4_E5B9);
-        z = (z ^ z >> 27).wrapping_mul(0x94D0_49BB_1331_11EB);
-        z ^ z >> 31
-    }
-
-    fn below(&mut self, n: usize) -> usize {
-        (self.next() % n as u64) as usize
-    }
-
     // A code of n digits.
     fn code(&mut self, n: usize) -> Vec<u8> {
         let mut code: Vec<u8> = (1..n).map(|_| 1 + self.below(3) as u8).collect();

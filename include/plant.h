@@ -1,8 +1,9 @@
 /* plant.h: the plant register's core, as called from C or C++.
  *
  * An entry of the register carries a label of three packed codes: its start, its end and its parent's start. Which entry
- * stands before, above, directly above or beside which is read off two labels. The functions behind these calls are
- * proved to meet their contracts; what a caller has to see to stands under the word `caller`.
+ * stands before, above, directly above or beside which is read off two labels. A table of entries in document order gets
+ * its first labels by plant_label. The functions behind these calls are proved to meet their contracts; what a caller has to
+ * see to stands under the word `caller`.
  *
  * Every buffer belongs to the caller: nothing is allocated, and no pointer is kept after a call. No state is kept either,
  * so calls may run in several threads as long as no thread writes to a buffer that is lent to a running call.
@@ -24,13 +25,22 @@ extern "C" {
  * to the end. The fill is part of the field: a code cut after its last digit is no field. 32 zero bytes: the empty field.
  * Label: three fields, 96 bytes: start at 0, end at 32, parent start at 64. Sound when start and end are codes, start is
  * below end, and the parent start is empty (the root's) or a code below start.
- * Below: the first differing digit decides; a proper prefix is below the longer code. */
+ * Below: the first differing digit decides; a proper prefix is below the longer code.
+ * Table: rows of three numbers, identity, tag and depth, in document order. The first depth is 0; each later one is at least
+ * 1, at most the previous depth plus 1, and at most 63. Identities are not 0 and all different; a tag is any number.
+ * Register: a header, the count of entries at 0 and zero at 4, then the entries in document order, each with its identity at
+ * 0, its tag at 4 and its label at 8. A number takes 4 bytes, the lowest first. */
 #define PLANT_LONGEST 127 /* digits of the longest code */
 #define PLANT_FIELD 32    /* bytes of a field */
 #define PLANT_LABEL 96    /* bytes of a label */
+#define PLANT_ROW 3       /* numbers of a table's row */
+#define PLANT_ROWS 4096   /* rows of the longest table, entries of the largest register */
+#define PLANT_HEADER 8    /* bytes of a register before its first entry */
+#define PLANT_ENTRY 104   /* bytes of an entry */
 
-/* A refused call answers one of these and writes nothing. Every refusal is below -100000, every other answer above it;
- * a test for "negative" will not do, since plant_order answers -1. Under `refuses` they stand in the order they are tried. */
+/* A refused call answers one of these, plant_label with the row in it (see below), and writes nothing. Every refusal is below
+ * -100000, every other answer above it; a test for "negative" will not do, since plant_order answers -1. Under `refuses` they
+ * stand in the order they are tried. */
 #define PLANT_REFUSED(n) (-(100000 + (n)))
 #define PLANT_TABLE_SIZE PLANT_REFUSED(1)   /* table of 0 or more than 4,096 rows, or not a whole number of rows */
 #define PLANT_ROW_DEPTH PLANT_REFUSED(2)    /* a depth breaks the table rule */
@@ -45,6 +55,11 @@ extern "C" {
 #define PLANT_NO_LABEL PLANT_REFUSED(11)    /* not a sound label, or not 96 bytes */
 #define PLANT_NO_CODE PLANT_REFUSED(12)     /* not a code: wrong digits, or a field not of 32 bytes or unsound */
 #define PLANT_NOT_BELOW PLANT_REFUSED(13)   /* both sides are codes and left is not below right */
+
+/* A refusal of plant_label is one of the above less 1,000,000 times the row, from 0; the row is 0 where none is to blame. So
+ * it is not compared with them as it stands: PLANT_REFUSAL_OF takes the row away, PLANT_ROW_OF answers the row. */
+#define PLANT_REFUSAL_OF(answer) (((answer) + 100000) % 1000000 - 100000)
+#define PLANT_ROW_OF(answer) (-((answer) + 100000) / 1000000)
 
 /* Questions on two labels. The answer is fixed for any two sound labels; it speaks of a tree when both stand in one register. */
 
@@ -117,6 +132,20 @@ int32_t plant_unpack(const uint8_t *field, size_t len, uint8_t *digits, size_t n
  *           that may be read and written; field overlaps neither left nor right
  * proved    codes::Code::between, crates/codes/src/lib.rt */
 int32_t plant_between(const uint8_t *left, size_t l_len, const uint8_t *right, size_t r_len, uint8_t *field, size_t len);
+
+/* Tables and their registers. */
+
+/* Writes the register of a table, each entry with its first label.
+ * takes     table: rows of PLANT_ROW numbers, `numbers` in all, not the count of rows; read only, kept no longer than the call
+ * answers   the bytes written: 8 + 104 x rows
+ * refuses   PLANT_TABLE_SIZE if numbers is not 3 times 1 to 4,096; then for the first row from the top that breaks a rule,
+ *           with that row, PLANT_ROW_DEPTH for its depth, else PLANT_IDENTITY if its identity is 0 or stands in a row above;
+ *           then PLANT_ROOM if len is below 8 + 104 x rows
+ * writes    the first 8 + 104 x rows bytes of reg; bytes past them are kept; refused, nothing
+ * caller    both pointers are not NULL, even for length 0; table is aligned for its type and points to that many readable
+ *           numbers, reg to len bytes that may be read and written; reg does not overlap table; 48 KB of stack are free
+ * proved    tables::label, crates/tables/src/lib.rt */
+int64_t plant_label(const uint32_t *table, size_t numbers, uint8_t *reg, size_t len);
 
 #ifdef __cplusplus
 }

@@ -7,14 +7,7 @@
  * usage: host_test [seed [rounds]]
  */
 #define _DEFAULT_SOURCE
-#include <signal.h>
-#include <stdint.h>
-#include <stdio.h>
-#include <stdlib.h>
-#include <string.h>
-#include <sys/mman.h>
-#include <unistd.h>
-
+#include "guard.h"
 #include "plant.h"
 
 /* 01's numbers, stated here once more on purpose. */
@@ -117,66 +110,15 @@ static void settle(int32_t got, int32_t want)
 
 /* ---- guarded buffers ---- */
 
-static size_t page;
 static uint8_t *input_lent[2], *input_filled[2]; /* two views of one page: read only between guards, and writable */
 static uint8_t *output_lent, *output_wanted;
 
-static void *must_map(void *at, size_t size, int rights, int flags, int file, long offset)
-{
-    void *p = mmap(at, size, rights, flags, file, offset);
-
-    if (p == MAP_FAILED) {
-        perror("mmap");
-        exit(2);
-    }
-    return p;
-}
-
-static uint8_t *guarded(void)
-{
-    uint8_t *p = must_map(NULL, 3 * page, PROT_NONE, MAP_PRIVATE | MAP_ANONYMOUS, -1, 0);
-
-    return p + page;
-}
-
 static void make_buffers(void)
 {
-    FILE *f = tmpfile();
-
-    page = (size_t)sysconf(_SC_PAGESIZE);
-    if (!f || ftruncate(fileno(f), (long)(2 * page)) != 0) {
-        perror("tmpfile");
-        exit(2);
-    }
-    for (int i = 0; i < 2; i++) {
-        long at = i * (long)page;
-        input_lent[i] = must_map(guarded(), page, PROT_READ, MAP_SHARED | MAP_FIXED, fileno(f), at);
-        input_filled[i] = must_map(NULL, page, PROT_READ | PROT_WRITE, MAP_SHARED, fileno(f), at);
-    }
-    output_lent = guarded();
-    output_wanted = malloc(page);
-    if (mprotect(output_lent, page, PROT_READ | PROT_WRITE) != 0 || !output_wanted) {
-        perror("output page");
-        exit(2);
-    }
-}
-
-static void put(const char *text)
-{
-    if (write(STDOUT_FILENO, text, strlen(text)) < 0)
-        _exit(1);
-}
-
-static void put_number(unsigned long long x)
-{
-    char text[24];
-    int i = sizeof text - 1;
-
-    text[i] = 0;
-    do
-        text[--i] = (char)('0' + x % 10);
-    while (x /= 10);
-    put(text + i);
+    for (int i = 0; i < 2; i++)
+        make_input(page, &input_lent[i], &input_filled[i]);
+    output_lent = make_output(page);
+    output_wanted = must_have(page);
 }
 
 static void on_fault(int signal_number)
@@ -798,30 +740,6 @@ static void every_bit(void)
 
 /* ---- random cases ---- */
 
-static uint64_t state;
-
-/* splitmix64 */
-static uint64_t draw(void)
-{
-    uint64_t z = state += 0x9e3779b97f4a7c15u;
-
-    z = (z ^ (z >> 30)) * 0xbf58476d1ce4e5b9u;
-    z = (z ^ (z >> 27)) * 0x94d049bb133111ebu;
-    return z ^ (z >> 31);
-}
-
-/* 0 to n - 1 */
-static int pick(int n)
-{
-    return (int)(draw() % (uint64_t)n);
-}
-
-/* one in n */
-static int chance(int n)
-{
-    return pick(n) == 0;
-}
-
 static int random_length(void)
 {
     switch (pick(4)) {
@@ -1170,9 +1088,8 @@ int main(int argc, char **argv)
     setvbuf(stdout, NULL, _IOLBF, 0);
     printf("seed %llu, rounds %llu\n", seed, rounds);
     state = seed;
+    start_guards(on_fault);
     make_buffers();
-    signal(SIGSEGV, on_fault);
-    signal(SIGBUS, on_fault);
 
     worked_example();
     reckoned_by_hand();

@@ -121,10 +121,10 @@ pub fn lower_cut(left: Code, right: Code) -> Code
     requires right { ⌜ Short right ⌝ }
     ensures held { λ r. ⌜ Held r (first (digitsOf left) (digitsOf right)) ⌝ }
 {
-    if left.count < right.count {
-        return right.lowered();
+    if right.count <= left.count {
+        return left.with_last(2);
     }
-    left.with_last(2)
+    right.lowered()
 }
 
 // The upper one.
@@ -133,10 +133,10 @@ pub fn upper_cut(left: Code, right: Code) -> Code
     requires right { ⌜ Short right ⌝ }
     ensures held { λ r. ⌜ Held r (second (digitsOf left) (digitsOf right)) ⌝ }
 {
-    if left.count < right.count {
-        return right.lowered_less();
+    if right.count <= left.count {
+        return left.with_last(3);
     }
-    left.with_last(3)
+    right.lowered_less()
 }
 
 // The digit at place i of a field.

@@ -1,6 +1,6 @@
 -- The first labelling of an accepted table: what the walk starts from, and that it leaves the register of the labelled tree.
 -- Assumes nothing.
-use mathlib.Core.Path.{_≡_, refl, sym, ap, _∙_}
+use mathlib.Core.Path.{_≡_, refl, sym, ap, _∙_, subst}
 use mathlib.Core.List.{List, [], _++_, append-nil}
 use Prim.Native.Nat.{ℕ, zero, suc, _+_, _*_, _≤_, _<_}
 use native.Mathlib.Nat.{add-zero}
@@ -90,6 +90,15 @@ module _ (t : List ℕ) (n : ℕ) (e : checkedOf t ≡ Rows n) where
   pub start-codes : (x y : Digits) → x ≡ [] → y ≡ [] → All IsCode (thirds x y (2 * n + 1))
   start-codes x y f g = rw (f, g) nine
 
+  pub tree-size : size (forest (named (rowsOf t))) ≡ n
+  tree-size = sym (length-rows 0 (forest (named (rowsOf t)))) ∙ ap length (accepted-tree t n e) ∙ named-length t ∙ row-count
+
+  first-codes : codes (labelledTree t) ≡ thirds [] [] (2 * n + 1)
+  first-codes = codes-labelled (forest (named (rowsOf t))) ∙ ap (λ (j : ℕ). thirds [] [] (2 * j + 1)) tree-size
+
+  pub tree-codes : All IsCode (codes (labelledTree t))
+  tree-codes = subst (All IsCode) (sym first-codes) nine
+
   -- the walk along the first codes leaves the register of the labelled tree
   walk-bytes : (b : List ℕ) → entryPlace n ≤ length b
       → walked t (thirds [] [] (2 * n + 1)) (atStart (put b 0 (le4 n ++ le4 0))) .bytes ≡ put b 0 (registerBytes (preorder (labelledTree t)))
@@ -97,9 +106,7 @@ module _ (t : List ℕ) (n : ℕ) (e : checkedOf t ≡ Rows n) where
       let f = forest (named (rowsOf t)) in
       let h : List ℕ = le4 n ++ le4 0 in
       let r : rows 0 f ≡ named (rowsOf t) = accepted-tree t n e in
-      let s : size f ≡ n = sym (length-rows 0 f) ∙ ap length r ∙ named-length t ∙ row-count in
-      let k : codes (labelled f) ≡ thirds [] [] (2 * n + 1) = codes-labelled f ∙ ap (λ (j : ℕ). thirds [] [] (2 * j + 1)) s in
-      let l : length (preorder (labelled f)) ≡ n = length-preorder (labelled f) ∙ size-labelled f ∙ s in
+      let l : length (preorder (labelled f)) ≡ n = length-preorder (labelled f) ∙ size-labelled f ∙ tree-size in
       let c = row-count in
       let a = tour-at t b h refl (omega arith) (labelled f) [] 0 [] [] (atStart (put b 0 h))
       (record {
@@ -110,7 +117,7 @@ module _ (t : List ℕ) (n : ℕ) (e : checkedOf t ≡ Rows n) where
         ready = start-ready (put b 0 h) (omega (arith, put-grows b 0 h (omega arith)));
       })
       tt refl (parents-fill [] f (thirds [] [] (2 * size f + 1))) in
-      ap (λ (xs : List Digits). walked t xs (atStart (put b 0 h)) .bytes) (sym k) ∙ a .at .bytes
+      ap (λ (xs : List Digits). walked t xs (atStart (put b 0 h)) .bytes) (sym first-codes) ∙ a .at .bytes
       ∙ ap (λ (j : ℕ). put b 0 (le4 j ++ (le4 0 ++ entriesBytes (preorder (labelled f))))) (sym l)
 
   pub first-bytes : (b b₁ : List ℕ) (x y : Digits) (v : Walk) → entryPlace n ≤ length b → b₁ ≡ put b 0 (le4 n ++ le4 0) → x ≡ [] → y ≡ []

@@ -8,3 +8,4 @@ pub mod GapLaws
 pub mod TourLaws
 pub mod LabelLaws
 pub mod SignableLaws
+pub mod HoldsLaws

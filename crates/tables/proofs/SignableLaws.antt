@@ -2,11 +2,10 @@
 use mathlib.Core.Path.{_≡_, refl}
 use mathlib.Core.Bool.{Bool, true, false, cond}
 use mathlib.Core.List.{List, [], _∷_}
-use Prim.Native.Nat.{ℕ, suc, _+_, _/_, _≤_, _<_}
+use Prim.Native.Nat.{ℕ, suc, _+_, _≤_, _<_}
 use native.Mathlib.Omega.{arith}
 use lib.Dec.{leb, eqb}
 use lib.ListN.{length}
-use borrow.Author.Tests.{leb-true}
 use Rattle.answers.specs.declared.Refusal.the-variants.{TableSize, RowDepth, RowIdentity, Room}
 use Rattle.answers.specs.Number.{rowOf}
 use Rattle.answers.specs.Outcome.{accepted, unless}
@@ -18,7 +17,7 @@ use Rattle.tables.specs.declared.Checked.{Checked}
 use Rattle.tables.specs.declared.Checked.the-variants.{Rows, Bad}
 use Rattle.registers.specs.Layout.{entryPlace}
 use Rattle.tables.specs.Table.{mostRows, Row, rowsOf}
-use Rattle.tables.specs.Rules.{size?, depth?, fresh?, identityAt, rowsFrom, rowsChecked, checkedOf}
+use Rattle.tables.specs.Rules.{size?, depth?, fresh?, rowsFrom, rowsChecked, checkedOf}
 use Rattle.tables.specs.Labelling.{labelledTree, labelAs, labelOutcome}
 use Rattle.tables.proofs.AcceptedLaws.{size-bounds}
 use Rattle.tables.proofs.LabelLaws.{count-most}

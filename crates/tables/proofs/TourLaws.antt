@@ -36,7 +36,7 @@ drop-map f (suc i) (x ∷ xs) = drop-map f i xs
 abbrev pub nameOf : List ℕ → ℕ → Name
 nameOf t i = record { identity = identityOf t i; tag = tagOf t i }
 
-abbrev naming : Row → Name × ℕ
+abbrev pub naming : Row → Name × ℕ
 naming r = (record { identity = r .identity; tag = r .tag }, r .depth)
 
 -- row i ps a name with its depth, and the rows behind it

@@ -23,7 +23,7 @@ use registers::MOST;
 use walk::Cursor;
 
 // The numbers of a row: identity, tag, depth.
-const ROW: usize = 3;
+pub const ROW: usize = 3;
 
 // A table that was gone through: the number of its rows, or why it is refused.
 pub enum Checked {

@@ -74,13 +74,24 @@ module _ {A : Type 0} where
   pub within-labelled : (f : Forest A) (m : ℕ) → Enough 3 (2 * size f) m → All (Within 1 3 m) (codes (labelled f))
   within-labelled f m e = rw (codes-labelled f, add-one) (first-within (2 * size f) m e)
 
-  pub sound-labelled : (k m : ℕ) (f : Forest A) → Height k f → Enough 3 (2 * size f) m → Sound (Within 1 3 m) k [] [] [] (labelled f)
-  sound-labelled k m f h e = record {
+  -- sound, whatever is asked of a code, where the first codes are codes
+  pub labelled-sound : (Code : Digits → Type 0) (k : ℕ) (f : Forest A) → Height k f → All Code (codes (labelled f))
+      → Sound Code k [] [] [] (labelled f)
+  labelled-sound Code k f h c = record {
     rising = rises-labelled f;
-    coded = within-labelled f m e;
+    coded = c;
     parented = parents-fill [] f (thirds [] [] (2 * size f + 1));
     height = height-image names k (labelled f) (rw (plain-labelled f) h);
   }
+
+  pub sound-labelled : (k m : ℕ) (f : Forest A) → Height k f → Enough 3 (2 * size f) m → Sound (Within 1 3 m) k [] [] [] (labelled f)
+  sound-labelled k m f h e = labelled-sound (Within 1 3 m) k f h (within-labelled f m e)
+
+  pub rooted-labelled : (deepest : ℕ) (p : A × ℕ) (t : List (A × ℕ)) → Ruled deepest (p ∷ t) → Rooted (labelled (forest (p ∷ t)))
+  rooted-labelled deepest p t h =
+      let f = forest (p ∷ t) in
+      let r : Rooted f = rw (ruled-forest deepest p t h) tt in
+      rooted-image names (labelled f) (rw (plain-labelled f) r)
 
   -- the labelled tree of a table that meets the rule, for its entries
   pub tree-labelled : (deepest m : ℕ) (p : A × ℕ) (t : List (A × ℕ)) → Ruled deepest (p ∷ t) → Enough 3 (2 * length (p ∷ t)) m
@@ -88,10 +99,9 @@ module _ {A : Type 0} where
   tree-labelled deepest m p t h e =
       let f = forest (p ∷ t) in
       let n : size f ≡ length (p ∷ t) = sym (length-rows 0 f) ∙ ap length (ruled-rows deepest (p ∷ t) h) in
-      let r : Rooted f = rw (ruled-forest deepest p t h) tt in
       record {
         tree = labelled f;
-        rooted = rooted-image names (labelled f) (rw (plain-labelled f) r);
+        rooted = rooted-labelled deepest p t h;
         entries = refl;
         sound = sound-labelled (suc deepest) m f (ruled-height deepest (p ∷ t) h) (rw n e);
       }

@@ -1,4 +1,4 @@
--- `lower_cut` meets its contract: the right code remade where the left one is shorter, else the left one and a digit. Assumes nothing.
+-- `lower_cut` meets its contract: the left code and a digit where it is no shorter, else the right one remade. Assumes nothing.
 use Prim.Native.Nat.{Ordering·lt}
 use native.Mathlib.Omega.{arith}
 use Rattle.digits.specs.Thirds.{firstAt}
@@ -8,24 +8,25 @@ use borrow.Author.Needs.{needs}
 use Rattle.codes.proofs.spread.lower_cut.Statement.{statement}
 use Rattle.codes.proofs.spread.lower_cut.Tie as tie
 
-lowered-requires : tie.Need-lowered-requires
-lowered-requires c κs = search needs
+with-last-requires : tie.Need-with-last-requires
+with-last-requires c κs = search needs
 
 returns : tie.Need-returns
 returns c =
     let a = c .before .before .before .before in
-    held-at firstAt (a .args .left) (a .args .right) _ Ordering·lt (whole (a .args .left) _ (a .good .0))
-    (whole (a .args .right) _ (a .good .1 .0)) (omega arith) (omega arith) (lt (c .before .if1 .taken)) (c .lowered .ensures)
+    let h = c .before .if1 .taken in
+    held-else firstAt (a .args .left) (a .args .right) _ (whole (a .args .left) _ (a .good .0))
+    (whole (a .args .right) _ (a .good .1 .0)) (omega arith) (omega arith) (λ k. omega (arith, h, k)) (c .with-last .ensures)
+    (c .with-last .ensures)
 
-with-last-requires : tie.Need-with-last-requires
-with-last-requires c κs = search needs
+lowered-requires : tie.Need-lowered-requires
+lowered-requires c κs = search needs
 
 returns-2 : tie.Need-returns-2
 returns-2 c =
     let a = c .before .before .before .before in
-    held-else firstAt (a .args .left) (a .args .right) _ (whole (a .args .left) _ (a .good .0))
-    (whole (a .args .right) _ (a .good .1 .0)) (omega arith) (omega arith) (λ h. omega arith) (c .with-last .ensures)
-    (c .with-last .ensures)
+    held-at firstAt (a .args .left) (a .args .right) _ Ordering·lt (whole (a .args .left) _ (a .good .0))
+    (whole (a .args .right) _ (a .good .1 .0)) (omega arith) (omega arith) (lt (omega arith)) (c .lowered .ensures)
 
 pub lower-cut-spec : {M : Type 1} → statement M
-lower-cut-spec = tie.close (tie.spec lowered-requires returns with-last-requires returns-2)
+lower-cut-spec = tie.close (tie.spec with-last-requires returns lowered-requires returns-2)

@@ -1,0 +1,86 @@
+-- An accepted table gives a sound register whose plain tree is the table's, with first codes of at most m digits. Assumes nothing.
+use mathlib.Core.Path.{_≡_, refl, sym, ap, _∙_, subst}
+use mathlib.Core.Logic.{_≢_}
+use mathlib.Core.List.{List, [], _∷_, map}
+use Prim.Native.Nat.{ℕ, suc, _*_, _≤_}
+use native.Mathlib.Omega.{arith}
+use lib.ListN.{length, take}
+use Rattle.digits.specs.Lists.{All, Distinct}
+use Rattle.digits.specs.Code.{Within, Enough}
+use Rattle.answers.specs.Outcome.{Outcome}
+use Rattle.numbers.proofs.PutLaws.{put-run}
+use Rattle.codes.specs.Code.{IsCode}
+use Rattle.trees.specs.Forest.{preorder, Rooted}
+use Rattle.trees.specs.Table.{Ruled, forest}
+use Rattle.trees.specs.Labelled.{Name, Entry, plain, codes, labelled}
+use Rattle.trees.proofs.ImageLaws.{preorder-image}
+use Rattle.trees.proofs.TableLaws.{preorder-rows, ruled-height}
+use Rattle.trees.proofs.LabelledLaws.{plain-labelled, size-labelled, within-labelled, labelled-sound, rooted-labelled}
+use Rattle.registers.specs.Layout.{deepest, entryPlace}
+use Rattle.registers.specs.Entries.{registerBytes}
+use Rattle.registers.specs.Holds.{identities as identitiesOf, Whole, Holds}
+use Rattle.tables.specs.declared.Checked.the-variants.{Rows}
+use Rattle.tables.specs.Table.{rowsOf}
+use Rattle.tables.specs.Rules.{checkedOf}
+use Rattle.tables.specs.Accepted.{named, identities}
+use Rattle.tables.specs.Labelling.{labelledTree, labelOutcome}
+use Rattle.tables.proofs.RowLaws.{rows-length}
+use Rattle.tables.proofs.AcceptedLaws.{accepted, accepted-tree}
+use Rattle.tables.proofs.TourLaws.{naming, named-length}
+use Rattle.tables.proofs.LabelLaws.{count-most, tree-size, tree-codes, outcome-written}
+
+-- a list that is mapped twice
+map-twice : {A B C : Type 0} (f : A → B) (g : B → C) (xs : List A) → map g (map f xs) ≡ map (λ x. g (f x)) xs
+map-twice f g [] = refl
+map-twice f g (x ∷ xs) = ap (λ l. g (f x) ∷ l) (map-twice f g xs)
+
+abbrev identity : Name → ℕ
+identity n = n .identity
+
+abbrev names : Entry Name → Name
+names u = u .name
+
+some-root : (t : List (Name × ℕ)) → 1 ≤ length t → Ruled deepest t → Rooted (labelled (forest t))
+some-root [] s h = absurd (omega arith)
+some-root (p ∷ t) s h = rooted-labelled deepest p t h
+
+module _ (t : List ℕ) (n : ℕ) (e : checkedOf t ≡ Rows n) where
+  -- the identities of the register are those of the rows
+  same-identities : identitiesOf (preorder (labelledTree t)) ≡ identities (rowsOf t)
+  same-identities =
+      let f = forest (named (rowsOf t)) in
+      let us = preorder (labelled f) in
+      let r : map (λ p. p .0) (named (rowsOf t)) ≡ preorder f = ap (map (λ p. p .0)) (sym (accepted-tree t n e)) ∙ preorder-rows 0 f in
+      let q : map names us ≡ preorder f = sym (preorder-image names (labelled f)) ∙ ap preorder (plain-labelled f) in
+      sym (map-twice names identity us) ∙ ap (map identity) (q ∙ sym r)
+      ∙ map-twice (λ p. p .0) identity (named (rowsOf t)) ∙ map-twice naming (λ p. p .0 .identity) (rowsOf t)
+
+  pub label-whole : Whole (labelledTree t)
+  label-whole =
+      let a = accepted t n e in
+      let s = tree-size t n e in
+      let m = count-most t n e in
+      record {
+        rooted = some-root (named (rowsOf t)) (rw (named-length t) (omega (arith, rows-length t, a .some))) (a .ruled);
+        most = omega (arith, size-labelled (forest (named (rowsOf t))));
+        real = subst (All (λ x. x ≢ 0)) (sym same-identities) (a .real);
+        distinct = subst Distinct (sym same-identities) (a .distinct);
+        sound = labelled-sound IsCode (suc deepest) (forest (named (rowsOf t))) (ruled-height deepest (named (rowsOf t)) (a .ruled)) (tree-codes t n e);
+      }
+
+  -- demand 2: the register of an accepted table is sound ..
+  pub label-holds : (lent : List ℕ) → entryPlace n ≤ length lent → Holds (labelOutcome t lent .bytes) (labelledTree t)
+  label-holds lent room = record {
+    whole = label-whole;
+    bytes =
+        ap (λ (o : Outcome). take (length (registerBytes (preorder (labelledTree t)))) (o .bytes)) (outcome-written t n e lent room)
+        ∙ put-run lent 0 (registerBytes (preorder (labelledTree t))) (omega arith);
+  }
+
+  -- demand 3: .. and its codes have at most m digits, m least such that 3 ^ m > 2N
+  pub label-within : (m : ℕ) → Enough 3 (2 * n) m → All (Within 1 3 m) (codes (labelledTree t))
+  label-within m k = within-labelled (forest (named (rowsOf t))) m (subst (λ j. Enough 3 (2 * j) m) (sym (tree-size t n e)) k)
+
+-- .. and its plain tree is the one whose rows are the table's
+pub label-plain : (t : List ℕ) → plain (labelledTree t) ≡ forest (named (rowsOf t))
+label-plain t = plain-labelled (forest (named (rowsOf t)))

@@ -1,0 +1,559 @@
+/* Drives plant_label and compares its answer and every lent byte with a model written from 01, the scope paper.
+ *
+ * The model links each row to its parent and its parent to it, numbers starts and ends by a recursive tour and keeps codes as
+ * text; it shares nothing with the library. Each call is made twice: table and register, of exactly the stated length, stand
+ * first directly before and then directly behind a page that may not be touched, and the table on pages that may not be
+ * written.
+ *
+ * usage: label_test [seed [rounds]]
+ */
+#define _DEFAULT_SOURCE
+#include "guard.h"
+#include "plant.h"
+
+/* 01's numbers, stated here once more on purpose. */
+enum { LONGEST = 127, FIELD = 32, ROW = 3, ROWS = 4096, DEEPEST = 63, HEADER = 8, ENTRY = 104 };
+
+_Static_assert(PLANT_ROW == ROW && PLANT_ROWS == ROWS && PLANT_HEADER == HEADER && PLANT_ENTRY == ENTRY, "sizes");
+
+/* ---- the case under way ---- */
+
+enum { MOST = ROWS + 2 }; /* rows, so that too many can be lent */
+static uint32_t table[MOST * ROW];
+static size_t numbers, room;
+
+static const char *group;
+static unsigned long case_number;
+static int side;
+
+static unsigned long long seed = 1, rounds = 2000;
+
+static void print_case(void)
+{
+    size_t shown = numbers < 40 * ROW ? numbers : 40 * ROW;
+
+    printf("  seed %llu, rounds %llu, case %lu (%s), buffers %s the guard page\n", seed, rounds, case_number, group,
+           side ? "behind" : "before");
+    printf("  %zu numbers, room %zu; rows:", numbers, room);
+    for (size_t i = 0; i < shown; i++)
+        printf("%s%u", i % ROW == 0 ? "  " : " ", table[i]);
+    printf("%s\n", shown < numbers ? "  and so on" : "");
+}
+
+static void fail(const char *what, long long got, long long want)
+{
+    printf("MISMATCH: %s: %lld, expected %lld\n", what, got, want);
+    print_case();
+    exit(1);
+}
+
+/* The model fails against 01: no word on the library. */
+static void fail_model(const char *what)
+{
+    printf("THE MODEL IS WRONG: %s\n", what);
+    print_case();
+    exit(1);
+}
+
+static void on_fault(int signal_number)
+{
+    (void)signal_number;
+    put("FAULT: a byte outside a lent buffer was touched, or the table written: seed ");
+    put_number(seed), put(", rounds "), put_number(rounds), put(", case "), put_number(case_number), put(" ("), put(group);
+    put(side ? "), buffers behind the guard page\n" : "), buffers before the guard page\n");
+    _exit(1);
+}
+
+/* ---- the model ---- */
+
+/* A number of 0 is no refusal. */
+struct verdict {
+    int number;
+    size_t row;
+};
+
+static int used_above(size_t row)
+{
+    for (size_t i = 0; i < row; i++)
+        if (table[ROW * i] == table[ROW * row])
+            return 1;
+    return 0;
+}
+
+static struct verdict model_verdict(void)
+{
+    size_t rows = numbers / ROW;
+
+    if (numbers % ROW != 0 || rows == 0 || rows > ROWS)
+        return (struct verdict){1, 0};
+    for (size_t i = 0; i < rows; i++) {
+        uint32_t depth = table[ROW * i + 2];
+        if (i == 0 ? depth != 0 : depth < 1 || depth > DEEPEST || depth > table[ROW * (i - 1) + 2] + 1)
+            return (struct verdict){2, i};
+        if (table[ROW * i] == 0 || used_above(i))
+            return (struct verdict){3, i};
+    }
+    return (struct verdict){room < HEADER + ENTRY * rows ? 4 : 0, 0};
+}
+
+/* Entries by their rows; -1 is none. */
+static struct entry {
+    int parent, first_child, last_child, next;
+    int start, end; /* numbers along the tour */
+} entries[ROWS];
+
+static void link_entries(int rows)
+{
+    for (int i = 0; i < rows; i++) {
+        int parent = i - 1;
+        while (parent >= 0 && table[ROW * parent + 2] + 1 != table[ROW * i + 2])
+            parent--;
+        entries[i] = (struct entry){.parent = parent, .first_child = -1, .last_child = -1, .next = -1};
+        if (parent < 0)
+            continue;
+        if (entries[parent].last_child < 0)
+            entries[parent].first_child = i;
+        else
+            entries[entries[parent].last_child].next = i;
+        entries[parent].last_child = i;
+    }
+}
+
+/* Numbers an entry's start, its children and its end; answers the last number given. */
+static int tour(int entry, int number)
+{
+    entries[entry].start = ++number;
+    for (int child = entries[entry].first_child; child >= 0; child = entries[child].next)
+        number = tour(child, number);
+    entries[entry].end = ++number;
+    return number;
+}
+
+/* The codes along the tour as text, from number 1 on; the open sides are empty. strcmp has 01's order. */
+static char codes[2 * ROWS + 2][LONGEST + 1];
+
+/* A code is made of another, its last digits cut off, and a tail. */
+static void make(char *code, const char *from, int cut, const char *tail)
+{
+    if (snprintf(code, LONGEST + 1, "%.*s%s", (int)strlen(from) - cut, from, tail) > LONGEST)
+        fail_model("a code passes 127 digits");
+}
+
+static int ends_in(const char *code, char digit)
+{
+    return code[strlen(code) - 1] == digit;
+}
+
+/* The one code between. Here a longer right side ends in 2 and a longer left one in 3; the rule is 01's, for any two sides. */
+static void make_between(char *code, const char *left, const char *right)
+{
+    if (strlen(left) < strlen(right))
+        make(code, right, 1, ends_in(right, '2') ? "12" : "2");
+    else if (strlen(left) == strlen(right))
+        make(code, left, 0, "2");
+    else
+        make(code, left, ends_in(left, '2'), ends_in(left, '2') ? "3" : "2");
+}
+
+/* The codes of the gap between numbers p and q */
+static void make_codes(int p, int q)
+{
+    int d = q - p, i = p + (d + 1) / 3, j = p + (2 * d + 1) / 3;
+
+    if (d == 2)
+        make_between(codes[p + 1], codes[p], codes[q]);
+    if (d < 3)
+        return;
+    if (strlen(codes[p]) < strlen(codes[q])) {
+        if (!ends_in(codes[q], '2'))
+            fail_model("the longer right side of a gap does not end in 2");
+        make(codes[i], codes[q], 1, "12");
+        make(codes[j], codes[q], 1, "13");
+    } else {
+        make(codes[i], codes[p], 0, "2");
+        make(codes[j], codes[p], 0, "3");
+    }
+    make_codes(p, i);
+    make_codes(i, j);
+    make_codes(j, q);
+}
+
+static void put_field(uint8_t *field, const char *code)
+{
+    static const int weight[4] = {64, 16, 4, 1};
+
+    memset(field, 0, FIELD);
+    for (int k = 0; code[k]; k++)
+        field[k / 4] = (uint8_t)(field[k / 4] + weight[k % 4] * (code[k] - '0'));
+}
+
+static void put_32(uint8_t *to, uint32_t x)
+{
+    for (int i = 0; i < 4; i++, x /= 256)
+        to[i] = (uint8_t)(x % 256);
+}
+
+static void model_register(int rows, uint8_t *to)
+{
+    codes[0][0] = codes[2 * rows + 1][0] = 0;
+    make_codes(0, 2 * rows + 1);
+    for (int k = 1; k <= 2 * rows; k++)
+        if (strcmp(codes[k - 1], codes[k]) >= 0)
+            fail_model("the codes do not rise along the tour");
+    link_entries(rows);
+    if (tour(0, 0) != 2 * rows)
+        fail_model("the tour does not meet every entry");
+    put_32(to, (uint32_t)rows);
+    put_32(to + 4, 0);
+    for (int i = 0; i < rows; i++) {
+        const struct entry *x = &entries[i];
+        uint8_t *at = to + HEADER + ENTRY * i;
+        put_32(at, table[ROW * i]);
+        put_32(at + 4, table[ROW * i + 1]);
+        put_field(at + 8, codes[x->start]);
+        put_field(at + 8 + FIELD, codes[x->end]);
+        put_field(at + 8 + 2 * FIELD, x->parent < 0 ? "" : codes[entries[x->parent].start]);
+    }
+}
+
+/* ---- one case ---- */
+
+static size_t table_pages, register_pages; /* bytes of all pages */
+static uint8_t *table_lent, *table_filled, *register_lent, *register_wanted;
+static unsigned long tally[5]; /* by refusal number; 0 accepted */
+
+/* of n bytes, and at least one byte more */
+static size_t whole_pages(size_t n)
+{
+    return (n / page + 1) * page;
+}
+
+static void make_buffers(void)
+{
+    table_pages = whole_pages(sizeof table);
+    register_pages = whole_pages(HEADER + ENTRY * (size_t)MOST);
+    make_input(table_pages, &table_lent, &table_filled);
+    register_lent = make_output(register_pages);
+    register_wanted = must_have(register_pages);
+}
+
+/* The pages that were lent from are as they were, but for the register. */
+static void check_register(size_t from, size_t size, size_t at)
+{
+    size_t i = from;
+
+    if (memcmp(register_lent + from, register_wanted + from, size) == 0)
+        return;
+    while (register_lent[i] == register_wanted[i])
+        i++;
+    printf("Byte %ld of the lent register is wrong after the call.\n", (long)i - (long)at);
+    if (i >= at + HEADER)
+        printf("It is byte %zu of entry %zu.\n", (i - at - HEADER) % ENTRY, (i - at - HEADER) / ENTRY);
+    fail("register byte", register_lent[i], register_wanted[i]);
+}
+
+/* Both buffers stand at the end of their pages, before a guard, or at the beginning, behind one. */
+static void try_table(void)
+{
+    struct verdict v = model_verdict();
+    size_t bytes = numbers * sizeof *table, size = whole_pages(room);
+    int64_t want = -(100000 + v.number + INT64_C(1000000) * (int64_t)v.row);
+
+    case_number++;
+    for (side = 0; side < 2; side++) {
+        size_t table_at = side ? 0 : table_pages - bytes, at = side ? 0 : register_pages - room;
+        size_t from = side ? 0 : register_pages - size;
+        memcpy(table_filled + table_at, table, bytes);
+        for (size_t i = from; i < from + size; i++)
+            register_lent[i] = (uint8_t)(0x35 + 29 * i + case_number);
+        memcpy(register_wanted + from, register_lent + from, size);
+        if (v.number == 0) {
+            model_register((int)(numbers / ROW), register_wanted + at);
+            want = (int64_t)(HEADER + ENTRY * (numbers / ROW));
+        }
+        int64_t got = plant_label((const uint32_t *)(const void *)(table_lent + table_at), numbers, register_lent + at, room);
+        if (got != want)
+            fail("answer", got, want);
+        if (v.number > 0 && PLANT_REFUSAL_OF(got) != PLANT_REFUSED(v.number))
+            fail("refusal out of the answer", PLANT_REFUSAL_OF(got), PLANT_REFUSED(v.number));
+        if (v.number > 0 && PLANT_ROW_OF(got) != (int64_t)v.row)
+            fail("row out of the answer", PLANT_ROW_OF(got), (int64_t)v.row);
+        check_register(from, size, at);
+    }
+    tally[v.number]++;
+}
+
+/* With room for as many rows as there are, and a number of bytes more or less. */
+static void try_room(int more)
+{
+    room = HEADER + ENTRY * (numbers / ROW) + (size_t)more;
+    try_table();
+}
+
+static void try_rooms(void)
+{
+    room = 0;
+    try_table();
+    try_room(-1), try_room(0), try_room(1);
+}
+
+/* ---- making tables ---- */
+
+enum shape { FLAT, CHAINS, UNIFORM, DEEP, SHAPES };
+
+static uint32_t next_depth(enum shape shape, uint32_t previous)
+{
+    int most = previous < DEEPEST ? (int)previous + 1 : DEEPEST, x = pick(most), y = pick(most);
+
+    switch (shape) {
+    case FLAT:
+        return 1;
+    case CHAINS:
+        return previous < DEEPEST ? previous + 1 : 1;
+    case UNIFORM:
+        return (uint32_t)(1 + x);
+    default:
+        return (uint32_t)(1 + (x > y ? x : y));
+    }
+}
+
+/* Row i has identity (i + 1) x factor, which no other row has if the factor is odd or small. The factors: rows in order; all
+ * the same modulo 8192; the inverse of 2654435761 modulo 2^32, a usual factor to spread numbers over a hash table, so that
+ * all fall in its first place, or, negative, in its last. */
+static const uint32_t factors[] = {1, 8192, 244002641, -(uint32_t)244002641};
+enum { FACTORS = sizeof factors / sizeof factors[0] };
+
+static void make_table(size_t rows, enum shape shape, uint32_t factor)
+{
+    numbers = ROW * rows;
+    for (size_t i = 0; i < rows; i++) {
+        table[ROW * i] = (uint32_t)(i + 1) * factor;
+        table[ROW * i + 1] = chance(4) ? 0 : (uint32_t)draw();
+        table[ROW * i + 2] = i == 0 ? 0 : next_depth(shape, table[ROW * (i - 1) + 2]);
+    }
+}
+
+/* ---- fixed cases ---- */
+
+static void print_field(FILE *to, const uint8_t *field)
+{
+    int n = 0;
+
+    while (n < LONGEST && (field[n / 4] >> (6 - n % 4 * 2) & 3) != 0) {
+        fprintf(to, "%d", field[n / 4] >> (6 - n % 4 * 2) & 3);
+        n++;
+    }
+    if (n == 0)
+        fprintf(to, "-");
+}
+
+/* The register of a table, printed as 01 says, is this text. */
+static void vector(const uint32_t *rows, size_t count, const char *text)
+{
+    char *printed = NULL;
+    size_t size = 0;
+    FILE *to = open_memstream(&printed, &size);
+
+    numbers = ROW * count;
+    memcpy(table, rows, numbers * sizeof *rows);
+    try_rooms();
+    for (size_t i = 0; to && i < count; i++) {
+        const uint8_t *at = register_lent + HEADER + ENTRY * i;
+        fprintf(to, "%d %d", at[0], at[4]); /* numbers below 256 */
+        for (int k = 0; k < 3; k++)
+            fprintf(to, " "), print_field(to, at + 8 + FIELD * k);
+        fprintf(to, "\n");
+    }
+    if (!to || fclose(to) != 0)
+        exit(2);
+    if (strcmp(printed, text) != 0) {
+        printf("MISMATCH: the register of %s is\n%sexpected\n%s", group, printed, text);
+        exit(1);
+    }
+    free(printed);
+}
+
+static void vectors(void)
+{
+    static const uint32_t one[] = {7, 0, 0}, four[] = {10, 1, 0, 11, 2, 1, 12, 2, 1, 13, 3, 2};
+    static const uint32_t nine[] = {1, 1, 0, 2, 1, 1, 3, 1, 1, 4, 1, 2, 5, 1, 2, 6, 1, 1, 7, 1, 2, 8, 1, 1, 9, 1, 1};
+
+    group = "one row, P1";
+    vector(one, 1, "7 0 2 3 -\n");
+    group = "the worked example";
+    vector(four, 4, "10 1 12 33 -\n11 2 13 2 12\n12 2 22 32 12\n13 3 23 3 22\n");
+    group = "001's table 3; its example 8.3 has the first three rows";
+    vector(nine, 9,
+           "1 1 112 332 -\n2 1 12 122 112\n3 1 13 222 112\n4 1 132 2 13\n5 1 212 22 13\n"
+           "6 1 223 3 112\n7 1 23 232 223\n8 1 312 32 112\n9 1 322 33 112\n");
+}
+
+static void every_size(void)
+{
+    group = "every number of rows to 130";
+    for (size_t rows = 1; rows <= 130; rows++) {
+        make_table(rows, (enum shape)(rows % SHAPES), 1);
+        try_rooms();
+    }
+}
+
+static void lengths(void)
+{
+    static const size_t rows[] = {0, 1, 2, ROWS - 1, ROWS, ROWS + 1};
+
+    group = "whole rows and more, up to too many";
+    make_table(MOST, FLAT, 1);
+    for (size_t i = 0; i < sizeof rows / sizeof rows[0]; i++)
+        for (size_t more = 0; more < ROW; more++) {
+            numbers = ROW * rows[i] + more;
+            try_room(-1), try_room(0);
+        }
+}
+
+static void depth_limit(void)
+{
+    group = "depths of 63 and 64";
+    for (size_t rows = DEEPEST; rows <= DEEPEST + 3; rows++)
+        for (uint32_t depth = DEEPEST - 1; depth <= DEEPEST + 2; depth++) {
+            make_table(rows, CHAINS, 1);
+            table[numbers - 1] = depth;
+            try_room(0);
+        }
+}
+
+enum fault { TOO_DEEP, DEPTH_0, DEPTH_64, DEPTH_HUGE, IDENTITY_0, DOUBLED, DOUBLED_FAR, FAULTS };
+
+/* Spoils a row. In the first one a depth of 0 is no fault, and for an identity used above it takes 0. */
+static void spoil(enum fault fault, size_t row)
+{
+    uint32_t *at = table + ROW * row;
+
+    switch (fault) {
+    case TOO_DEEP:
+        at[2] = row == 0 ? 1 : at[2 - ROW] + 2;
+        break;
+    case DEPTH_0:
+        at[2] = 0;
+        break;
+    case DEPTH_64:
+        at[2] = DEEPEST + 1;
+        break;
+    case DEPTH_HUGE:
+        at[2] = UINT32_MAX;
+        break;
+    case IDENTITY_0:
+        at[0] = 0;
+        break;
+    case DOUBLED:
+        at[0] = row == 0 ? 0 : at[-ROW];
+        break;
+    default:
+        at[0] = row == 0 ? 0 : table[0];
+    }
+}
+
+/* Every two faults in every two rows of six, with and without the room for them. */
+static void two_faults(void)
+{
+    group = "two faults at once";
+    for (int k = 0; k < FAULTS * FAULTS; k++)
+        for (size_t rows = 0; rows < 36; rows++)
+            for (int more = -1; more <= 0; more++) {
+                make_table(6, DEEP, 1);
+                spoil((enum fault)(k / FAULTS), rows / 6);
+                spoil((enum fault)(k % FAULTS), rows % 6);
+                try_room(more);
+            }
+}
+
+/* The longest tables, whole, then with a fault in the last row. */
+static void longest(void)
+{
+    for (int shape = 0; shape < SHAPES; shape++) {
+        group = "4096 rows";
+        make_table(ROWS, (enum shape)shape, factors[shape % FACTORS]);
+        try_room(-1), try_room(0), try_room(1);
+        group = "4096 rows, the last spoilt";
+        for (int fault = DOUBLED; fault <= DOUBLED_FAR; fault++) {
+            spoil((enum fault)fault, ROWS - 1);
+            try_room(0);
+        }
+        spoil(TOO_DEEP, ROWS - 1);
+        try_room(0);
+    }
+}
+
+/* ---- random cases ---- */
+
+static void random_room(void)
+{
+    switch (pick(6)) {
+    case 0:
+        try_room(-1);
+        break;
+    case 1:
+        try_room(1 + pick(200));
+        break;
+    case 2:
+        room = (size_t)pick(300);
+        try_table();
+        break;
+    default:
+        try_room(0);
+    }
+}
+
+static void random_table(void)
+{
+    size_t rows = (size_t)(1 + pick(chance(8) ? 300 : 24));
+
+    group = "random table";
+    make_table(rows, (enum shape)pick(SHAPES), chance(2) ? (uint32_t)draw() | 1 : factors[pick(FACTORS)]);
+    random_room();
+    group = "random table, damaged";
+    for (int faults = 1 + pick(3); faults > 0; faults--) {
+        size_t row = (size_t)pick((int)rows);
+        if (chance(6))
+            table[ROW * row] = table[ROW * (size_t)pick((int)rows)];
+        else
+            spoil((enum fault)pick(FAULTS), row);
+    }
+    if (chance(8))
+        numbers -= (size_t)(1 + pick(2));
+    random_room();
+}
+
+int main(int argc, char **argv)
+{
+    int missing = 0;
+
+    if (argc > 1)
+        seed = strtoull(argv[1], NULL, 10);
+    if (argc > 2)
+        rounds = strtoull(argv[2], NULL, 10);
+    setvbuf(stdout, NULL, _IOLBF, 0);
+    printf("seed %llu, rounds %llu\n", seed, rounds);
+    state = seed;
+    start_guards(on_fault);
+    make_buffers();
+
+    vectors();
+    every_size();
+    lengths();
+    depth_limit();
+    two_faults();
+    longest();
+    for (unsigned long long i = 0; i < rounds; i++)
+        random_table();
+
+    printf("plant_label: accepted %lu, no. 1 %lu, no. 2 %lu, no. 3 %lu, no. 4 %lu\n", tally[0], tally[1], tally[2], tally[3],
+           tally[4]);
+    for (int i = 0; i < 5; i++)
+        missing += tally[i] == 0;
+    if (missing > 0) {
+        printf("NEVER SEEN: %d of these answers\n", missing);
+        return 1;
+    }
+    printf("%lu cases, each before and behind a guard page: no mismatch\n", case_number);
+    return 0;
+}
