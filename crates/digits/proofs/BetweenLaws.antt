@@ -78,7 +78,8 @@ lowered-shape = remade-shape lower (last-digit (λ d. Shape (lower d)) (omega ar
 
 pub lowered-below : (r : Digits) → Shape r → Below (remade lower r) r
 lowered-below r s =
-    rw (remade-kept r) at (remade-order lower kept (last-digit (λ d. Below (lower d) (kept d)) (inl (omega arith)) (inl (omega arith))) r s)
+    rw (remade-kept r) at (remade-order lower kept (last-digit (λ d. Below (lower d) (kept d)) (inl (omega arith)) (inl (omega arith)))
+    r s)
 
 pub below-lowered : (l r : Digits) → Shape r → length l < length r → Below l r → Below l (remade lower r)
 below-lowered = below-remade lower (last-digit (λ d. 0 < length (lower d)) (omega arith) (omega arith))
@@ -174,7 +175,8 @@ raised-two [] e = absurd e
 raised-two (d ∷ []) e = rw e
 raised-two (d ∷ c ∷ x) e = omega (arith, raised-two (c ∷ x) e)
 
-short-at : (l r : Digits) (o : Ordering) → Compared (length l) (length r) o → Gap l r → Short (max (length l) (length r)) (betweenAt o l r)
+short-at : (l r : Digits) (o : Ordering) → Compared (length l) (length r) o → Gap l r
+    → Short (max (length l) (length r)) (betweenAt o l r)
 short-at l r Ordering·lt (lt h) g =
     short-mono (length r) _ (remade lower r) (omega arith) (lowered-short r (side-formed 1 3 r (omega arith) (g .right)))
 short-at l r Ordering·eq (eq h) g = inr (ends-two-append l, simp length-append (omega arith))

@@ -39,7 +39,8 @@ module _ (least symbols : ℕ) (some : 0 < symbols) where
   value-pos (suc h) (a ∷ b ∷ x) s k = omega (arith, value-pos h (b ∷ x) (s .2) (omega arith))
 
   -- the order of codes is the order of their values
-  pub value-mono : (h : ℕ) (x y : Digits) → Side least symbols x → Formed least symbols y → length y ≤ h → Below x y → value h x < value h y
+  pub value-mono : (h : ℕ) (x y : Digits) → Side least symbols x → Formed least symbols y → length y ≤ h → Below x y
+      → value h x < value h y
   value-mono h x [] s t k b = absurd t
   value-mono zero x (c ∷ y) s t k b = absurd (omega arith)
   value-mono (suc h) [] (c ∷ y) s t k b = value-pos (suc h) (c ∷ y) t k

@@ -1,4 +1,5 @@
-// The calls of `codes`, `labels` and `tables` for a host program in C, as include/plant.h declares them; each turns an answer into a number.
+// The calls of `codes`, `labels` and `tables` for a host program in C, as include/plant.h declares them.
+// Each turns an answer into a number.
 ghost use mathlib.Core.Path.{_≡_};
 ghost use Rattle.answers.specs.Signed.{signedOf, signedRowOf};
 ghost use Rattle.codes.specs.Calls.{packOutcome, unpackOutcome, betweenOutcome};

@@ -52,7 +52,8 @@ module _ (h : List ℕ) (eight : length h ≡ 8) (us vs : List (Entry Name)) (n 
   unfolding entryBytes
   bytes-start = rw (entries-append us (entry y ∷ vs)) (simp append-assoc)
 
-  bytes-end : (z : Digits) → h ++ entriesBytes (us ++ (entry z ∷ vs)) ≡ (front ++ fieldOf x) ++ (fieldOf z ++ (fieldOf p ++ entriesBytes vs))
+  bytes-end : (z : Digits)
+      → h ++ entriesBytes (us ++ (entry z ∷ vs)) ≡ (front ++ fieldOf x) ++ (fieldOf z ++ (fieldOf p ++ entriesBytes vs))
   unfolding entryBytes
   bytes-end z = rw (entries-append us (entry z ∷ vs)) (simp append-assoc)
 
@@ -69,5 +70,6 @@ module _ (h : List ℕ) (eight : length h ≡ 8) (us vs : List (Entry Name)) (n 
   end-put b z =
       let l : length (front ++ fieldOf x) ≡ endPlace (length us) =
       length-append front (fieldOf x) ∙ (let e = front-length in let f = field-length x in omega arith) in
-      let r = put-inside b (front ++ fieldOf x) (fieldOf y) (fieldOf p ++ entriesBytes vs) (fieldOf z) (field-length y ∙ sym (field-length z)) in
+      let r = put-inside b (front ++ fieldOf x) (fieldOf y) (fieldOf p ++ entriesBytes vs) (fieldOf z)
+      (field-length y ∙ sym (field-length z)) in
       rw (bytes-end y, bytes-end z) (rw l at r)

@@ -54,7 +54,8 @@ module _ (l r a b : Digits) (d : ℕ) (h : 3 ≤ d) (ea : a ≡ first l r) (eb :
       → v₃ ≡ walked t (thirds a b (middlePart d)) v₂ → v₄ ≡ stepped t b v₃ → v₅ ≡ walked t (thirds b r (rightPart d)) v₄
       → v₅ ≡ walked t (thirds l r d) w
   walked-parts t w v₁ v₂ v₃ v₄ v₅ e₁ e₂ e₃ e₄ e₅ =
-      e₅ ∙ ap (walked t (thirds b r (rightPart d))) (e₄ ∙ ap (stepped t b) (e₃ ∙ ap (walked t (thirds a b (middlePart d))) (e₂ ∙ ap (stepped t a) e₁)))
+      e₅ ∙ ap (walked t (thirds b r (rightPart d))) (e₄ ∙ ap (stepped t b)
+      (e₃ ∙ ap (walked t (thirds a b (middlePart d))) (e₂ ∙ ap (stepped t a) e₁)))
       ∙ sym (ap (λ xs. walked t xs w) parts-of ∙ walked-cut t (thirds l a (leftPart d)) a _ w
       ∙ walked-cut t (thirds a b (middlePart d)) b (thirds b r (rightPart d)) (stepped t a (walked t (thirds l a (leftPart d)) w)))
 

@@ -65,7 +65,8 @@ module _ (t : List ℕ) (n : ℕ) (e : checkedOf t ≡ Rows n) where
         most = omega (arith, size-labelled (forest (named (rowsOf t))));
         real = subst (All (λ x. x ≢ 0)) (sym same-identities) (a .real);
         distinct = subst Distinct (sym same-identities) (a .distinct);
-        sound = labelled-sound IsCode (suc deepest) (forest (named (rowsOf t))) (ruled-height deepest (named (rowsOf t)) (a .ruled)) (tree-codes t n e);
+        sound = labelled-sound IsCode (suc deepest) (forest (named (rowsOf t))) (ruled-height deepest (named (rowsOf t)) (a .ruled))
+            (tree-codes t n e);
       }
 
   -- demand 2: the register of an accepted table is sound ..

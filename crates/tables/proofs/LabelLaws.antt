@@ -61,7 +61,8 @@ module _ (t : List ℕ) (n : ℕ) (e : checkedOf t ≡ Rows n) where
       let l : i < length r = rw (named-length t) h in
       let a = all-at (λ (row : Name × ℕ). row .1 < suc deepest) r i z (ruled-bounded deepest r (accepted t n e .ruled)) l in
       let g : getD r i z ≡ (nameOf t i, depthOf t i) =
-      ap (λ (k : ℕ). getD r k z) (sym (add-zero i)) ∙ sym (getD-drop i r 0 z) ∙ ap (λ (q : List (Name × ℕ)). getD q 0 z) (named-next t i h) in
+      ap (λ (k : ℕ). getD r k z) (sym (add-zero i)) ∙ sym (getD-drop i r 0 z) ∙ ap (λ (q : List (Name × ℕ)). getD q 0 z)
+      (named-next t i h) in
       omega (arith, a, ap (λ (row : Name × ℕ). row .1) g)
 
   pub start-ready : (bytes : List ℕ) → entryPlace n ≤ length bytes → Ready t (atStart bytes)
@@ -101,7 +102,8 @@ module _ (t : List ℕ) (n : ℕ) (e : checkedOf t ≡ Rows n) where
 
   -- the walk along the first codes leaves the register of the labelled tree
   walk-bytes : (b : List ℕ) → entryPlace n ≤ length b
-      → walked t (thirds [] [] (2 * n + 1)) (atStart (put b 0 (le4 n ++ le4 0))) .bytes ≡ put b 0 (registerBytes (preorder (labelledTree t)))
+      → walked t (thirds [] [] (2 * n + 1)) (atStart (put b 0 (le4 n ++ le4 0))) .bytes ≡ put b 0
+      (registerBytes (preorder (labelledTree t)))
   walk-bytes b room =
       let f = forest (named (rowsOf t)) in
       let h : List ℕ = le4 n ++ le4 0 in
@@ -123,7 +125,8 @@ module _ (t : List ℕ) (n : ℕ) (e : checkedOf t ≡ Rows n) where
   pub first-bytes : (b b₁ : List ℕ) (x y : Digits) (v : Walk) → entryPlace n ≤ length b → b₁ ≡ put b 0 (le4 n ++ le4 0) → x ≡ [] → y ≡ []
       → v ≡ walked t (thirds x y (2 * n + 1)) (atStart b₁) → v .bytes ≡ put b 0 (registerBytes (preorder (labelledTree t)))
   first-bytes b b₁ x y v room i f g k =
-      let same : walked t (thirds x y (2 * n + 1)) (atStart b₁) ≡ walked t (thirds [] [] (2 * n + 1)) (atStart (put b 0 (le4 n ++ le4 0))) =
+      let same : walked t (thirds x y (2 * n + 1)) (atStart b₁) ≡ walked t (thirds [] [] (2 * n + 1))
+      (atStart (put b 0 (le4 n ++ le4 0))) =
       rw (f, g, i) refl in
       ap (λ (w : Walk). w .bytes) (k ∙ same) ∙ walk-bytes b room
 

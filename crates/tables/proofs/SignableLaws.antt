@@ -36,7 +36,8 @@ unfolding rowsFrom
 small-from k row previous used [] h = tt
 small-from k row previous used (r ∷ rs) h =
     small-cond k (depth? previous (r .depth)) _ (Bad (RowDepth row))
-    (small-cond k (fresh? (r .identity) used) _ (Bad (RowIdentity row)) (small-from k (suc row) (r .depth) (r .identity ∷ used) rs (omega arith))
+    (small-cond k (fresh? (r .identity) used) _ (Bad (RowIdentity row))
+    (small-from k (suc row) (r .depth) (r .identity ∷ used) rs (omega arith))
     (omega arith))
     (omega arith)
 
@@ -62,6 +63,7 @@ label-signable t lent = go (checkedOf t) refl (small-checked t)
     go (Bad refusal) e h = omega arith
     go (Rows n) e h = room (leb (entryPlace n) (length lent)) (count-most t n e)
       where
-        room : (z : Bool) → n ≤ mostRows → SignableRow (unless z Room lent (accepted (entryPlace n) (put lent 0 (registerBytes (preorder (labelledTree t))))) .answer)
+        room : (z : Bool) → n ≤ mostRows
+            → SignableRow (unless z Room lent (accepted (entryPlace n) (put lent 0 (registerBytes (preorder (labelledTree t))))) .answer)
         room true m = omega arith
         room false m = omega arith

@@ -104,7 +104,8 @@ begun u = record { name = u .name; start = u .start; end = []; parent = u .paren
 abbrev pub Under : ℕ → List ℕ → List (Entry Name) → Digits → Type 0
 Under zero path us p = p ≡ []
 Under (suc d) path us p =
-    (ps : List (Entry Name)) × (q : Entry Name) × (bs : List (Entry Name)) × (us ≡ ps ++ (q ∷ bs)) × (getD path d 0 ≡ length ps) × (q .start ≡ p)
+    (ps : List (Entry Name)) × (q : Entry Name) × (bs : List (Entry Name)) × (us ≡ ps ++ (q ∷ bs)) × (getD path d 0 ≡ length ps) ×
+    (q .start ≡ p)
 
 -- lists alike in their first elements
 same-level : (d : ℕ) (l m : List ℕ) → take (suc d) l ≡ take (suc d) m → getD l d 0 ≡ getD m d 0
@@ -134,7 +135,8 @@ module _ (t b h : List ℕ) (eight : length h ≡ 8) (room : entryPlace (rowCoun
     pub ready : Ready t w
 
   -- the parent start is copied from where the parent's start was written
-  parent-is : (us : List (Entry Name)) (d : ℕ) (w : Walk) (p : Digits) → w .bytes ≡ put b 0 (h ++ entriesBytes us) → Under d (w .path) us p
+  parent-is : (us : List (Entry Name)) (d : ℕ) (w : Walk) (p : Digits) → w .bytes ≡ put b 0 (h ++ entriesBytes us)
+      → Under d (w .path) us p
       → parentField (w .bytes) (w .path) d ≡ fieldOf p
   parent-is us zero w p e u = parent-none (w .bytes) (w .path) 0 refl ∙ ap fieldOf (sym u)
   parent-is us (suc d) w p e (ps, q, bs, f, g, k) =
@@ -160,7 +162,8 @@ module _ (t b h : List ℕ) (eight : length h ≡ 8) (room : entryPlace (rowCoun
       ap (begunBytes t (w .row) (u .start)) p
       ∙ ap (λ (i : Name). le4 (i .identity) ++ (le4 (i .tag) ++ (fieldOf (u .start) ++ (fieldOf [] ++ fieldOf (u .parent))))) (n .name) in
       let q : h ++ entriesBytes (us ++ (begun u ∷ [])) ≡ (h ++ entriesBytes us) ++ entryBytes (begun u) =
-      ap (λ (z : List ℕ). h ++ z) (entries-append us (begun u ∷ []) ∙ ap (λ (z : List ℕ). entriesBytes us ++ z) (append-nil (entryBytes (begun u))))
+      ap (λ (z : List ℕ). h ++ z) (entries-append us (begun u ∷ []) ∙ ap (λ (z : List ℕ). entriesBytes us ++ z)
+      (append-nil (entryBytes (begun u))))
       ∙ sym (append-assoc h (entriesBytes us) (entryBytes (begun u))) in
       ap (λ (z : List ℕ). put (w .bytes) (entryPlace (w .row)) z) m
       ∙ ap (λ (z : List ℕ). put z (entryPlace (w .row)) (entryBytes (begun u))) (a .bytes)
@@ -244,7 +247,8 @@ module _ (t b h : List ℕ) (eight : length h ≡ 8) (room : entryPlace (rowCoun
       let e : rows d (plain (node u c s)) ++ rest ≡ (u .name, d) ∷ (rows (suc d) (plain c) ++ later) =
       ap (λ (l : List (Name × ℕ)). (u .name, d) ∷ l) (append-assoc (rows (suc d) (plain c)) (rows d (plain s)) rest) in
       let v₁ : Walk = stepped t (u .start) w in
-      let w₁ = start-at us d u (rows (suc d) (plain c) ++ later) w (subst (λ l. At us d l w) e a) (subst (Under d (w .path) us) (sym (q .0)) g) in
+      let w₁ = start-at us d u (rows (suc d) (plain c) ++ later) w (subst (λ l. At us d l w) e a)
+      (subst (Under d (w .path) us) (sym (q .0)) g) in
       let r₁ = w₁ .at .ready in
       let deep : d < length (w .path) = omega (arith, r₁ .level, w₁ .at .level, a .ready .levels) in
       let i₁ : getD (v₁ .path) d 0 ≡ length us =
@@ -259,7 +263,8 @@ module _ (t b h : List ℕ) (eight : length h ≡ 8) (room : entryPlace (rowCoun
       let above : take d (v₃ .path) ≡ take d (w .path) =
       ap (take d) (w₃ .path-is) ∙ levels-above d (v₂ .path) (v₁ .path) (w₂ .above) ∙ ap (take d) (w₁ .path-is)
       ∙ take-set-le d (w .path) d (length us) (omega arith) in
-      let w₄ = tour-at s (us ++ (u ∷ preorder c)) d rest p v₃ (w₃ .at) k (under-more d (w .path) (v₃ .path) us (u ∷ preorder c) p above g) (q .2) in
+      let w₄ = tour-at s (us ++ (u ∷ preorder c)) d rest p v₃ (w₃ .at) k
+      (under-more d (w .path) (v₃ .path) us (u ∷ preorder c) p above g) (q .2) in
       subst (Toured (us ++ (u ∷ (preorder c ++ preorder s))) d rest (w .path)) (sym (walked-cut t (codes c) (u .end) (codes s) v₁))
       (record {
         at = subst (λ l. At l d rest (walked t (codes s) v₃)) (append-assoc us (u ∷ preorder c) (preorder s)) (w₄ .at);

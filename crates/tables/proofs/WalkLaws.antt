@@ -138,4 +138,5 @@ begun-bytes t row i g x b p b₁ b₂ h ei eg e f =
     let at : parentPlace row ≡ entryPlace row + length vs = omega (arith, n) in
     f ∙ ap (λ (z : List ℕ). put z (entryPlace row) vs) (e ∙ ap (λ (k : ℕ). put b k p) at)
     ∙ put-under b (entryPlace row) vs p (omega (arith, n, h .1))
-    ∙ ap (put b (entryPlace row)) (ap (λ (z : List ℕ). le4 i ++ (le4 g ++ z)) (append-assoc (fieldOf x) (fieldOf []) p) ∙ rw (ei, eg) refl)
+    ∙ ap (put b (entryPlace row)) (ap (λ (z : List ℕ). le4 i ++ (le4 g ++ z)) (append-assoc (fieldOf x) (fieldOf []) p) ∙ rw (ei, eg)
+    refl)

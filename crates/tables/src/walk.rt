@@ -36,7 +36,8 @@ pub(crate) fn gap(
     requires width { ⌜ width ≤ 2 * mostRows + 1 ⌝ }
     requires codes { ⌜ All IsCode (thirds (digitsOf left) (digitsOf right) width) ⌝ }
     ensures walked { λ r. ⌜ walkOf (now (register .exit)) (now (path .exit)) r
-        ≡ walked (now (table .entry)) (thirds (digitsOf left) (digitsOf right) width) (walkOf (now (register .entry)) (now (path .entry)) at) ⌝ }
+        ≡ walked (now (table .entry)) (thirds (digitsOf left) (digitsOf right) width)
+        (walkOf (now (register .entry)) (now (path .entry)) at) ⌝ }
 {
     if width < 2 {
         return at;

@@ -125,7 +125,13 @@ three-read bytes a b c t u v e f g =
     let p = number-read space a u bytes e in
     let q = number-read space b v u f in
     let r = number-read newline c t v g in
-    record { printed = p .printed ∙ rw (q .printed, r .printed) (simp append-assoc); first = p .small; second = q .small; third = r .small }
+    record {
+      printed = p .printed ∙ rw (q .printed, r .printed) (simp append-assoc);
+      first = p .small;
+      second = q .small;
+      third = r
+          .small;
+    }
 
 module _ (bytes : List ℕ) (a b c : ℕ) (t : List ℕ) where
   third-read : (x : ℕ) (u : List ℕ) (y : ℕ) (v : List ℕ) → readNumber space bytes ≡ number x u → readNumber space u ≡ number y v

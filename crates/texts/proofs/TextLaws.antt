@@ -81,7 +81,8 @@ unfolding readText
 printed-read text ns e = lines-read mostLines text ns e
 
 -- an unreadable text is the text of no table
-pub unreadable-unprinted : (text : List ℕ) → readText text .readable ≡ false → (ns : List ℕ) → Table mostLines ns → text ≡ tableText ns → ⊥
+pub unreadable-unprinted : (text : List ℕ) → readText text .readable ≡ false → (ns : List ℕ) → Table mostLines ns
+    → text ≡ tableText ns → ⊥
 unreadable-unprinted text e ns t p = not-readable (readText text) ns e (ap readText p ∙ read-printed ns t)
 
 rows-known : (t : Text) (n : ℕ) → Rows n ≡ linesOf t → (t ≡ readAs (t .numbers)) × (n ≡ length (t .numbers) / 3)

@@ -1,11 +1,10 @@
-// Runs the calls on codes and the rules of tables over the documents' figures and over both sides of each limit, and prints what
+// Runs the calls on codes and labelling over the documents' figures and over both sides of each limit, and prints what
 // they answer and leave.
 ghost use Prim.Native.Nat.{_+_, _<_, _≤_};
 ghost use lib.ListN.{length};
 use answers::Answer;
 use codes::Code;
 use libc::STDOUT_FILENO;
-use tables::Checked;
 
 // What a lent buffer holds before a call: 5a.
 const FILL: u8 = 90;
@@ -20,7 +19,7 @@ fn main() {
     unpacking();
     betweens();
     packer();
-    table_rules();
+    tables_labelled();
 }
 
 // 001, table 3, and P1: first codes, made by the step alone. From open sides on, a cut's two codes are the one code between, and
@@ -263,9 +262,52 @@ fn packer() {
     runs(&[one, two, three]);
 }
 
-// The rules of a table: 01's worked rows, each refusal, two reasons at once, and both sides of each limit.
-fn table_rules() {
-    table(b"table of 01:", &[10, 1, 0, 11, 2, 1, 12, 2, 1, 13, 3, 2]);
+// Labelling: 01's worked rows, 001's table 3 on nine rows, one row, each refusal, two reasons at once, and both sides of each limit.
+fn tables_labelled() {
+    labelled(&[10, 1, 0, 11, 2, 1, 12, 2, 1, 13, 3, 2]);
+    labelled(
+        &[
+            1,
+            0,
+            0,
+            2,
+            0,
+            1,
+            3,
+            0,
+            2,
+            4,
+            0,
+            3,
+            5,
+            0,
+            1,
+            6,
+            0,
+            1,
+            7,
+            0,
+            2,
+            8,
+            0,
+            2,
+            9,
+            0,
+            1,
+        ],
+    );
+    labelled(&[4294967295, 4294967295, 0]);
+    table_in(
+        b"table of 01 in 424 bytes:",
+        &[10, 1, 0, 11, 2, 1, 12, 2, 1, 13, 3, 2],
+        424,
+    );
+    table_in(
+        b"table of 01 in 423 bytes:",
+        &[10, 1, 0, 11, 2, 1, 12, 2, 1, 13, 3, 2],
+        423,
+    );
+    table_in(b"table with identity 0 in no bytes:", &[0, 1, 0], 0);
     table(b"table of no rows:", &[0; 0]);
     table(b"table of four numbers:", &[10, 1, 0, 11]);
     table(b"table with a first depth of 1:", &[10, 1, 1]);
@@ -309,14 +351,23 @@ fn depth(row: u32, deeper: bool) -> u32 {
     1
 }
 
+// Labels a table into a register that has room enough.
 fn table(name: &[u8], numbers: &[u32]) {
+    table_in(name, numbers, 425992);
+}
+
+// Labels a table into a register of some bytes.
+fn table_in(name: &[u8], numbers: &[u32], room: usize)
+    requires room { ⌜ room ≤ 425992 ⌝ }
+{
+    let mut register = [FILL; 425992];
     text(name);
-    match tables::check(numbers) {
-        Checked::Rows(n) => {
-            text(b" rows ");
+    match tables::label(numbers, &mut register[..room]) {
+        Answer::Accepted(n) => {
+            text(b" bytes ");
             io::print_decimal(STDOUT_FILENO, n as u64);
         }
-        Checked::Bad(refusal) => {
+        Answer::Refused(refusal) => {
             text(b" refused ");
             io::print_decimal(STDOUT_FILENO, refusal.number() as u64);
             text(b" row ");
@@ -324,6 +375,18 @@ fn table(name: &[u8], numbers: &[u32]) {
         }
     }
     newline();
+}
+
+// The lines of a table's register, and the bytes past it.
+fn labelled(numbers: &[u32])
+    requires few { ⌜ length (now numbers) ≤ 27 ⌝ }
+{
+    let mut register = [FILL; 944];
+    tables::label(numbers, &mut register);
+    let n = numbers.len() / 3;
+    printer::lines(&register, n);
+    text(b"past them:");
+    runs(&register[8 + 104 * n..]);
 }
 
 fn text(bytes: &[u8]) {

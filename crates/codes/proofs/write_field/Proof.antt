@@ -45,7 +45,11 @@ push-requires c κs =
     next-pushable (a .args .digits .now) (l .loop .i) (a .pre .1) (omega arith) _ (l .loop .inv .1)
 
 slice-write-field : tie.Need-slice-write-field Inv-loop μ-loop
-slice-write-field c = omega (arith, c .before .before .before .before .before .before .before .before .before .before .before .pre .1 .fits)
+slice-write-field c = omega (
+  arith,
+  c .before .before .before .before .before .before .before .before .before .before .before .pre .1
+      .fits,
+)
 
 add-i : tie.Need-add-i Inv-loop μ-loop
 add-i c = omega arith

@@ -40,7 +40,8 @@ returns c =
     let from = k .before .before in
     let to = from .before in
     k .move-up .ensures
-    ∙ ap (λ (z : ℕ). put b (z + labelAt + parentAt) (fieldAt (from .entry-place2 .result + labelAt + startAt) b)) (to .entry-place .ensures)
+    ∙ ap (λ (z : ℕ). put b (z + labelAt + parentAt) (fieldAt (from .entry-place2 .result + labelAt + startAt) b))
+    (to .entry-place .ensures)
     ∙ ap (λ (z : ℕ). put b (parentPlace (a .i)) (fieldAt (z + labelAt + startAt) b)) (from .entry-place2 .ensures)
 
 pub copy-parent-spec : {M : Type 1} → statement M

@@ -52,7 +52,11 @@ gap-requires c κs =
         omega (arith, o .«open» .ensures .count),
         (
           omega (arith, c .open2 .ensures .count),
-          (omega (arith, count-most t (a .args .n) (a .pre)), start-codes t (a .args .n) (a .pre) _ _ (o .«open» .ensures .digits) (c .open2 .ensures .digits)),
+          (
+            omega (arith, count-most t (a .args .n) (a .pre)),
+            start-codes t (a .args .n) (a .pre) _ _ (o .«open» .ensures .digits)
+                (c .open2 .ensures .digits),
+          ),
         ),
       ),
     )

@@ -79,7 +79,8 @@ same-length-3 c = search needs
 returns-4 : tie.Need-returns-4
 returns-4 c =
     let k = c .before .before .before .before .before in
-    let h = subst (λ (r : Entered). EnteredAs (identity k) (used k) r (k .enter .last .0)) (c .before .enum-told3 .given .1) (entered k) in
+    let h = subst (λ (r : Entered). EnteredAs (identity k) (used k) r (k .enter .last .0)) (c .before .enum-told3 .given .1) (entered k)
+    in
     let e = k .before .before .before .identity-of .ensures in (
       ap not (c .stands-above .ensures ∙ ap (λ (x : ℕ). among? x (used k)) e) ∙ sym (fresh-some (identity k) (used k) (some k)),
       λ t. h,

@@ -87,8 +87,11 @@ with-digit-requires : tie.Need-with-digit-requires Inv-loop μ-loop
 with-digit-requires c κs =
     let f = c .before in
     let l = f .before .before .before .before in
-    let a = l .before .before .before .before .before .before .before .args in
-    (omega arith, digit-follows (l .loop .x) (getD (a .text .now) (l .loop .i) 0) (sym (f .follows .ensures) ∙ not-false _ (c .if4 .left)))
+    let a = l .before .before .before .before .before .before .before .args in (
+      omega arith,
+      digit-follows (l .loop .x) (getD (a .text .now) (l .loop .i) 0)
+          (sym (f .follows .ensures) ∙ not-false _ (c .if4 .left)),
+    )
 
 add-i-2 : tie.Need-add-i-2 Inv-loop μ-loop
 add-i-2 c = omega arith

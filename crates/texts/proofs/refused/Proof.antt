@@ -40,7 +40,8 @@ returns c =
     length-append (decimal (n .number .result)) (newline ∷ []) in
     let m : k .number-at .result ≡ length (refusalText (n .number .result)) = omega (arith, k .number-at .ensures .1, l) in (
       k .number-at .ensures .0 ∙ ap (λ (b : List ℕ). put b 8 (decimal (n .number .result) ++ (newline ∷ []))) (w .copy .ensures)
-          ∙ put-put out 0 (114 ∷ 101 ∷ 102 ∷ 117 ∷ 115 ∷ 101 ∷ 100 ∷ 32 ∷ []) (omega arith) (decimal (n .number .result) ++ (newline ∷ []))
+          ∙ put-put out 0 (114 ∷ 101 ∷ 102 ∷ 117 ∷ 115 ∷ 101 ∷ 100 ∷ 32 ∷ []) (omega arith)
+          (decimal (n .number .result) ++ (newline ∷ []))
           ∙ ap (λ (x : ℕ). put out 0 (refusalText x)) e,
       (m ∙ ap (λ (x : ℕ). length (refusalText x)) e, omega (arith, k .number-at .ensures .1, d)),
     )

@@ -33,7 +33,8 @@ full-word-requires c κs = search needs
 
 returns : tie.Need-returns
 returns c =
-    ended-full (c .before .before .before .args .word) _ _ (omega arith) refl (omega arith) (c .before .if2 .taken) (c .full-word .ensures)
+    ended-full (c .before .before .before .args .word) _ _ (omega arith) refl (omega arith) (c .before .if2 .taken)
+    (c .full-word .ensures)
 
 returns-2 : tie.Need-returns-2
 returns-2 c = ended-low (c .before .before .args .word) _ (omega arith) refl (c .if2 .left)

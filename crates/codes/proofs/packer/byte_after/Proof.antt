@@ -86,7 +86,8 @@ module _ {M : Type 1} (𝓤 : URA M) (H : Heap 𝓤) (A : Atoms 𝓤) (W : Given
   unfolding partOf
   lies-out =
       qed W (‵ Lies ∷ []) ∵ fpick ! (λ vs. fsplit ! $
-      spelt ! T.the-row (Is T.the-row) (shows 𝓤 H A T.the-row) vals (LL.tells T.the-type T′.the-laws) fullShare h vs b 0 $ move ! (1 ∷ []) $
+      spelt ! T.the-row (Is T.the-row) (shows 𝓤 H A T.the-row) vals (LL.tells T.the-type T′.the-laws) fullShare h vs b 0 $ move !
+      (1 ∷ []) $
       peeks ! T.the-row (Is T.the-row) (shows 𝓤 H A T.the-row) h (vals h) (λ is. drop ! $ check ! is $
       use1 W (‵ Cell) (W .laws .raw-at fullShare T′.mir b 0 (val h)) $ done !))
 
@@ -97,7 +98,11 @@ module _ {M : Type 1} (𝓤 : URA M) (H : Heap 𝓤) (A : Atoms 𝓤) (at-mem : 
 
 -- at the pending byte m, the count k and the digit d
 module _ {M : Type 1} (𝓤 : URA M) (H : Heap 𝓤) (A : Atoms 𝓤) (W : Given 𝓤 H A) (at-mem : Memory → SProp 𝓤) (run : Routine → Fun 𝓤)
-    (m k d : ℕ) (m-fits : m < 2 ^ 8) (k-fits : k < 2 ^ 64) (d-fits : d < 2 ^ 8) (ok : Pushable (record { pending = m; count = k }) d) where
+    (m k d : ℕ) (m-fits : m < 2 ^ 8) (k-fits : k < 2 ^ 64) (d-fits : d < 2 ^ 8) (ok : Pushable (record {
+      pending =
+          m;
+      count = k;
+    }) d) where
   abbrev h : Packer
   h = record { pending = m; count = k }
 

@@ -51,7 +51,8 @@ pub +gap-spec : {M : Type 1} → statement M
     )
     (gap-at t)
     gap.Post
-    (λ c. let a = c .before .before .before .before .args in walked-none (a .table .now) (digitsOf (a .left)) (digitsOf (a .right)) (a .width) _ (c .if1 .taken))
+    (λ c. let a = c .before .before .before .before .args in walked-none (a .table .now) (digitsOf (a .left)) (digitsOf (a .right))
+    (a .width) _ (c .if1 .taken))
     (λ c κs. let a = c .before .before .before .before .before .before .before in (a .pre .1 .1 .0, a .pre .1 .1 .1 .0))
     (λ c κs.
     let a = c .before .before .before .before .before .before .before .before in
@@ -81,8 +82,20 @@ pub +gap-spec : {M : Type 1} → statement M
     let y = digitsOf (up .result) in
     let d = a .args .width in
     let wide : 3 ≤ d = omega (arith, o .before .if2 .left, o .before .before .if1 .left) in
-    let k = coded (digitsOf (a .args .left)) (digitsOf (a .args .right)) x y d wide (lo .ensures .digits) (up .ensures .digits) (a .pre .1 .1 .1 .1 .1) in
-    (omega (arith, wide), (a .pre .1 .0, (a .pre .1 .1 .0, (held-short (lo .result) _ (lo .ensures) (k .first-code), (omega (arith, a .pre .1 .1 .1 .1 .0), k .lower))))))
+    let k = coded (digitsOf (a .args .left)) (digitsOf (a .args .right)) x y d wide (lo .ensures .digits) (up .ensures .digits)
+    (a .pre .1 .1 .1 .1 .1) in (
+      omega (arith, wide),
+      (
+        a .pre .1 .0,
+        (
+          a .pre .1 .1 .0,
+          (
+            held-short (lo .result) _ (lo .ensures) (k .first-code),
+            (omega (arith, a .pre .1 .1 .1 .1 .0), k .lower),
+          ),
+        ),
+      ),
+    ))
     (λ c κs.
     let g1 = c .before .before .before .before .before .before in
     let u = g1 .before .before .before in
@@ -94,8 +107,10 @@ pub +gap-spec : {M : Type 1} → statement M
     let y = digitsOf (up .result) in
     let d = a .args .width in
     let wide : 3 ≤ d = omega (arith, o .before .if2 .left, o .before .before .if1 .left) in
-    let k = coded (digitsOf (a .args .left)) (digitsOf (a .args .right)) x y d wide (lo .ensures .digits) (up .ensures .digits) (a .pre .1 .1 .1 .1 .1) in
-    let r₁ = ready-walk (a .args .table .now) (thirds (digitsOf (a .args .left)) x (leftPart d)) (walkOf (a .args .register .now) (a .args .path .now) (a .args .at)) _ (a .pre .1 .0) (g1 .gap .ensures) in
+    let k = coded (digitsOf (a .args .left)) (digitsOf (a .args .right)) x y d wide (lo .ensures .digits) (up .ensures .digits)
+    (a .pre .1 .1 .1 .1 .1) in
+    let r₁ = ready-walk (a .args .table .now) (thirds (digitsOf (a .args .left)) x (leftPart d))
+    (walkOf (a .args .register .now) (a .args .path .now) (a .args .at)) _ (a .pre .1 .0) (g1 .gap .ensures) in
     (r₁, k .first-code))
     (λ c. omega arith)
     (λ c κs.
@@ -110,10 +125,20 @@ pub +gap-spec : {M : Type 1} → statement M
     let y = digitsOf (up .result) in
     let d = a .args .width in
     let wide : 3 ≤ d = omega (arith, o .before .if2 .left, o .before .before .if1 .left) in
-    let k = coded (digitsOf (a .args .left)) (digitsOf (a .args .right)) x y d wide (lo .ensures .digits) (up .ensures .digits) (a .pre .1 .1 .1 .1 .1) in
-    let r₁ = ready-walk (a .args .table .now) (thirds (digitsOf (a .args .left)) x (leftPart d)) (walkOf (a .args .register .now) (a .args .path .now) (a .args .at)) _ (a .pre .1 .0) (g1 .gap .ensures) in
-    let r₂ = ready-step (a .args .table .now) x _ _ r₁ (p2 .place2 .ensures) in
-    (omega (arith, wide), (r₂, (held-short (lo .result) _ (lo .ensures) (k .first-code), (held-short (up .result) _ (up .ensures) (k .second-code), (omega (arith, a .pre .1 .1 .1 .1 .0), k .middle))))))
+    let k = coded (digitsOf (a .args .left)) (digitsOf (a .args .right)) x y d wide (lo .ensures .digits) (up .ensures .digits)
+    (a .pre .1 .1 .1 .1 .1) in
+    let r₁ = ready-walk (a .args .table .now) (thirds (digitsOf (a .args .left)) x (leftPart d))
+    (walkOf (a .args .register .now) (a .args .path .now) (a .args .at)) _ (a .pre .1 .0) (g1 .gap .ensures) in
+    let r₂ = ready-step (a .args .table .now) x _ _ r₁ (p2 .place2 .ensures) in (
+      omega (arith, wide),
+      (
+        r₂,
+        (
+          held-short (lo .result) _ (lo .ensures) (k .first-code),
+          (held-short (up .result) _ (up .ensures) (k .second-code), (omega (arith, a .pre .1 .1 .1 .1 .0), k .middle)),
+        ),
+      ),
+    ))
     (λ c κs.
     let g2 = c .before .before .before .before .before .before in
     let p2 = g2 .before .before .before .before .before .before .before in
@@ -127,8 +152,10 @@ pub +gap-spec : {M : Type 1} → statement M
     let y = digitsOf (up .result) in
     let d = a .args .width in
     let wide : 3 ≤ d = omega (arith, o .before .if2 .left, o .before .before .if1 .left) in
-    let k = coded (digitsOf (a .args .left)) (digitsOf (a .args .right)) x y d wide (lo .ensures .digits) (up .ensures .digits) (a .pre .1 .1 .1 .1 .1) in
-    let r₁ = ready-walk (a .args .table .now) (thirds (digitsOf (a .args .left)) x (leftPart d)) (walkOf (a .args .register .now) (a .args .path .now) (a .args .at)) _ (a .pre .1 .0) (g1 .gap .ensures) in
+    let k = coded (digitsOf (a .args .left)) (digitsOf (a .args .right)) x y d wide (lo .ensures .digits) (up .ensures .digits)
+    (a .pre .1 .1 .1 .1 .1) in
+    let r₁ = ready-walk (a .args .table .now) (thirds (digitsOf (a .args .left)) x (leftPart d))
+    (walkOf (a .args .register .now) (a .args .path .now) (a .args .at)) _ (a .pre .1 .0) (g1 .gap .ensures) in
     let r₂ = ready-step (a .args .table .now) x _ _ r₁ (p2 .place2 .ensures) in
     let r₃ = ready-walk (a .args .table .now) (thirds x y (middlePart d)) _ _ r₂ (g2 .gap2 .ensures) in
     (r₃, k .second-code))
@@ -147,24 +174,36 @@ pub +gap-spec : {M : Type 1} → statement M
     let y = digitsOf (up .result) in
     let d = a .args .width in
     let wide : 3 ≤ d = omega (arith, o .before .if2 .left, o .before .before .if1 .left) in
-    let k = coded (digitsOf (a .args .left)) (digitsOf (a .args .right)) x y d wide (lo .ensures .digits) (up .ensures .digits) (a .pre .1 .1 .1 .1 .1) in
-    let r₁ = ready-walk (a .args .table .now) (thirds (digitsOf (a .args .left)) x (leftPart d)) (walkOf (a .args .register .now) (a .args .path .now) (a .args .at)) _ (a .pre .1 .0) (g1 .gap .ensures) in
+    let k = coded (digitsOf (a .args .left)) (digitsOf (a .args .right)) x y d wide (lo .ensures .digits) (up .ensures .digits)
+    (a .pre .1 .1 .1 .1 .1) in
+    let r₁ = ready-walk (a .args .table .now) (thirds (digitsOf (a .args .left)) x (leftPart d))
+    (walkOf (a .args .register .now) (a .args .path .now) (a .args .at)) _ (a .pre .1 .0) (g1 .gap .ensures) in
     let r₂ = ready-step (a .args .table .now) x _ _ r₁ (p2 .place2 .ensures) in
     let r₃ = ready-walk (a .args .table .now) (thirds x y (middlePart d)) _ _ r₂ (g2 .gap2 .ensures) in
-    let r₄ = ready-step (a .args .table .now) y _ _ r₃ (p3 .place3 .ensures) in
-    (omega (arith, wide), (r₄, (held-short (up .result) _ (up .ensures) (k .second-code), (a .pre .1 .1 .1 .0, (omega (arith, a .pre .1 .1 .1 .1 .0), k .upper))))))
+    let r₄ = ready-step (a .args .table .now) y _ _ r₃ (p3 .place3 .ensures) in (
+      omega (arith, wide),
+      (
+        r₄,
+        (
+          held-short (up .result) _ (up .ensures) (k .second-code),
+          (a .pre .1 .1 .1 .0, (omega (arith, a .pre .1 .1 .1 .1 .0), k .upper)),
+        ),
+      ),
+    ))
     (λ c.
     let e = c .before .before .before in
     let p = e .before .before .before .before .before .before .before in
     let q = p .before .before .before .before .before .before .before in
     let s = q .before .before .before .before .before .before .before in
-    e .register6 .given ∙ p .register5 .given ∙ q .register4 .given ∙ s .register3 .given ∙ s .before .before .before .before .before .before .before .register2 .given)
+    e .register6 .given ∙ p .register5 .given ∙ q .register4 .given ∙ s .register3 .given ∙ s .before .before .before .before .before
+    .before .before .register2 .given)
     (λ c.
     let e = c .before in
     let p = e .before .before .before .before .before .before .before in
     let q = p .before .before .before .before .before .before .before in
     let s = q .before .before .before .before .before .before .before in
-    e .path6 .given ∙ p .path5 .given ∙ q .path4 .given ∙ s .path3 .given ∙ s .before .before .before .before .before .before .before .path2 .given)
+    e .path6 .given ∙ p .path5 .given ∙ q .path4 .given ∙ s .path3 .given ∙ s .before .before .before .before .before .before .before
+    .path2 .given)
     (λ c.
     let g3 = c .before .before .before .before in
     let p3 = g3 .before .before .before .before .before .before .before in
@@ -180,5 +219,6 @@ pub +gap-spec : {M : Type 1} → statement M
     let y = digitsOf (up .result) in
     let d = a .args .width in
     let wide : 3 ≤ d = omega (arith, o .before .if2 .left, o .before .before .if1 .left) in
-    walked-parts (digitsOf (a .args .left)) (digitsOf (a .args .right)) x y d wide (lo .ensures .digits) (up .ensures .digits) (a .args .table .now) (walkOf (a .args .register .now) (a .args .path .now) (a .args .at))
+    walked-parts (digitsOf (a .args .left)) (digitsOf (a .args .right)) x y d wide (lo .ensures .digits) (up .ensures .digits)
+    (a .args .table .now) (walkOf (a .args .register .now) (a .args .path .now) (a .args .at))
     _ _ _ _ _ (g1 .gap .ensures) (p2 .place2 .ensures) (g2 .gap2 .ensures) (p3 .place3 .ensures) (g3 .gap3 .ensures)))

@@ -72,7 +72,11 @@ returns c =
     let p = i .before .before .before .before in
     let b = a .args .register .now in
     ap
-    (λ (z : List ℕ). walkOf z (set (a .args .path .now) (a .args .level) (a .args .row)) (record { row = a .args .row + 1; level = a .args .level + 1 }))
+    (λ (z : List ℕ). walkOf z (set (a .args .path .now) (a .args .level) (a .args .row)) (record {
+      row =
+          a .args .row + 1;
+      level = a .args .level + 1;
+    }))
     (begun-bytes (a .args .table .now) (a .args .row) _ _ (digitsOf (a .args .start)) b
     (parentField b (a .args .path .now) (a .args .level)) _ _ (row-place r (a .args .row) (s .0)) (i .identity-of .ensures)
     (t .tag-of .ensures) (p .write-parent .ensures) (g .begin .ensures))

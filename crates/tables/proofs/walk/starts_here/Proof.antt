@@ -17,7 +17,8 @@ cast-result c = search needs
 returns : tie.Need-returns
 returns c =
     let a = c .before .before .before .args in
-    ap (λ (d : ℕ). eqb d (a .level)) (c .depth-of .ensures) ∙ sym (starts-inside (a .table .now) (a .row) (a .level) (c .before .if1 .taken))
+    ap (λ (d : ℕ). eqb d (a .level)) (c .depth-of .ensures) ∙ sym (starts-inside (a .table .now) (a .row) (a .level)
+    (c .before .if1 .taken))
 
 returns-2 : tie.Need-returns-2
 returns-2 c =
