@@ -6,3 +6,4 @@ pub mod Table
 pub mod Tour
 pub mod Questions
 pub mod Labelled
+pub mod Check
