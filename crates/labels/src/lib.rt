@@ -173,7 +173,7 @@ fn parent_sound(parent: &[u8], start: &[u8]) -> bool
 }
 
 // The field of a label that begins at a place.
-fn field(label: &[u8], at: usize) -> &[u8]
+pub fn field(label: &[u8], at: usize) -> &[u8]
     requires inside { ⌜ at + fieldSize ≤ length (now label) ⌝ }
     ensures part { λ r. ⌜ now r ≡ fieldAt at (now (label .entry)) ⌝ }
     ensures size { λ r. ⌜ length (now r) ≡ fieldSize ⌝ }

@@ -1,12 +1,12 @@
 -- Laws of `put`: its length, its parts, its elements, and what a further store or run makes of it. Assumes nothing.
 use mathlib.Core.Path.{_≡_, refl, sym, ap, _∙_}
 use mathlib.Core.List.{List, [], _∷_, _++_, append-assoc, append-nil}
-use Prim.Native.Nat.{ℕ, suc, _+_, _-_, _≤_, _<_}
+use Prim.Native.Nat.{ℕ, zero, suc, _+_, _-_, _≤_, _<_}
 use native.Mathlib.Nat.{add-zero, zero-add, add-assoc}
 use native.Mathlib.Numerals.{add-one, add-two, add-three}
 use native.Mathlib.Omega.{arith}
 use lib.ListN.{length, take, drop, getD, set, length-append, length-take, length-drop, take-append-drop, drop-of-length-le, List·getD-append, length-set}
-use lib.Seq.{set-append-left, length-take-le, take-all, take-append-le, take-at, take-take, take-add, drop-at, drop-append-add, drop-drop, set-split, getD-take, getD-drop, sets, sets-eq}
+use lib.Seq.{set-append-left, length-take-le, take-all, take-nil, take-append-le, take-at, take-take, take-add, drop-at, drop-append-add, drop-drop, set-split, getD-take, getD-drop, sets, sets-eq}
 use Rattle.numbers.specs.Bytes.{put}
 
 -- nothing put
@@ -110,6 +110,12 @@ module _ (b A B C : List ℕ) where
       drop-append-add A (B ++ (C ++ D)) (length B′) ∙ drop-at B (C ++ D) (length B′) e in
       rw (put-front b A B C, put-front b A B′ C, n)
       (put-parts (A ++ (B ++ (C ++ D))) (length A) B′ (take-at A (B ++ (C ++ D)) (length A) refl) d)
+
+-- a part of a list, cut first at its start or first at its end
+pub take-drop : (from n : ℕ) (xs : List ℕ) → take n (drop from xs) ≡ drop from (take (from + n) xs)
+take-drop zero n xs = rw zero-add refl
+take-drop (suc from) n [] = take-nil n ∙ sym (ap (drop (suc from)) (take-nil (suc from + n)))
+take-drop (suc from) n (x ∷ xs) = let e : suc from + n ≡ suc (from + n) = omega arith in rw e (take-drop from n xs)
 
 -- a run put in front of another
 pub put-under : (xs : List ℕ) (at : ℕ) (vs ws : List ℕ) → at + length vs ≤ length xs

@@ -2,3 +2,4 @@
 pub mod Layout
 pub mod Entries
 pub mod Holds
+pub mod Sound

@@ -9,6 +9,9 @@ ghost use Rattle.codes.specs.Field.{fieldOf};
 ghost use Rattle.codes.specs.Spread.{digitsOf};
 ghost use Rattle.labels.specs.Label.{fieldAt};
 ghost use Rattle.registers.specs.Layout.{mostEntries, countAt, headerSize, entryPlace, startPlace, endPlace, parentPlace, HasPlace};
+
+mod walk;
+
 use codes::Code;
 use labels::END;
 use labels::LABEL;

@@ -10,3 +10,5 @@ pub mod KinLaws
 pub mod UniqueLaws
 pub mod LabelledLaws
 pub mod Examples
+pub mod WalkLaws
+pub mod CheckLaws

@@ -1,0 +1,98 @@
+-- Laws of sound labels in a register: what their fields hold, and how two fields compare. Assumes nothing.
+use mathlib.Core.Path.{_≡_, refl, sym, ap, _∙_, subst}
+use mathlib.Core.Logic.{_⊎_, inl, inr}
+use mathlib.Core.Bool.{Bool, true, false, cond, _&&_}
+use mathlib.Core.List.{List, []}
+use Prim.Native.Nat.{ℕ, zero, suc, _+_, _-_, _≤_, _<_}
+use native.Mathlib.Omega.{arith}
+use lib.ListN.{length, take, drop}
+use lib.Seq.{take-take, drop-drop}
+use Rattle.digits.specs.Order.{Digits, Below, below?}
+use Rattle.numbers.proofs.PutLaws.{take-drop}
+use Rattle.codes.specs.Code.{fieldSize, IsCode}
+use Rattle.codes.specs.Field.{fieldOf}
+use Rattle.codes.specs.Reading.{read, sideOf, same?}
+use Rattle.codes.proofs.ReadingLaws.{Sided, read-field, same?-field}
+use Rattle.labels.specs.Label.{labelSize, startAt, endAt, parentAt, fieldAt, codeHeld?, sound?, labelOf}
+use Rattle.labels.proofs.LabelLaws.{Sound, sound→, held-below}
+use Rattle.registers.specs.Layout.{entryPlace, labelAt, startPlace, endPlace, parentPlace, HasPlace}
+use Rattle.registers.specs.Entries.{codeAt}
+use Rattle.registers.specs.Sound.{labelBytes, soundLabel?, CodeAt, SideAt, HasEntries, HasLabel}
+
+-- a field of a label is a field of the register
+pub label-field : (b : List ℕ) (i at : ℕ) → at + fieldSize ≤ labelSize → fieldAt at (labelBytes b i) ≡ fieldAt (entryPlace i + labelAt + at) b
+label-field b i at h =
+    let k : ℕ = entryPlace i + labelAt in
+    let n : at + (labelSize - at) ≡ labelSize = omega arith in
+    let e : drop at (take labelSize (drop k b)) ≡ take (labelSize - at) (drop at (drop k b)) =
+    ap (λ (m : ℕ). drop at (take m (drop k b))) (sym n) ∙ sym (take-drop at (labelSize - at) (drop k b)) in
+    ap (take fieldSize) e ∙ take-take fieldSize (labelSize - at) (drop at (drop k b)) (omega arith) ∙ ap (take fieldSize) (drop-drop at k b)
+
+-- a field that is that of a code holds it
+code-held : (b : List ℕ) (at : ℕ) (x : Digits) → IsCode x → fieldAt at b ≡ fieldOf x → codeHeld? (read (fieldAt at b)) ≡ true
+code-held b at x c e = ap codeHeld? (ap read e ∙ read-field x c)
+
+-- what a sound label in the register says of its fields
+pub record SoundAt (b : List ℕ) (i : ℕ) : Type 0 where
+  pub start-code : IsCode (codeAt b (startPlace i))
+  pub start-at : CodeAt b (startPlace i)
+  pub start-side : SideAt b (startPlace i)
+  pub end-code : IsCode (codeAt b (endPlace i))
+  pub end-at : CodeAt b (endPlace i)
+  pub end-side : SideAt b (endPlace i)
+  pub parent-side : SideAt b (parentPlace i)
+  pub inner : Below (codeAt b (startPlace i)) (codeAt b (endPlace i))
+
+pub sound-at : (b : List ℕ) (i : ℕ) → HasPlace b i → soundLabel? b i ≡ true → SoundAt b i
+unfolding labelOf
+sound-at b i h t =
+    let s = sound→ (labelBytes b i) t in
+    let es = label-field b i startAt (omega arith) in
+    let ee = label-field b i endAt (omega arith) in
+    let ep = label-field b i parentAt (omega arith) in
+    let code : List ℕ → Digits = λ f. sideOf (read f) in
+    let cs : IsCode (codeAt b (startPlace i)) = subst (λ f. IsCode (code f)) es (s .start-code) in
+    let ce : IsCode (codeAt b (endPlace i)) = subst (λ f. IsCode (code f)) ee (s .end-code) in
+    let fs : fieldAt (startPlace i) b ≡ fieldOf (codeAt b (startPlace i)) = subst (λ f. f ≡ fieldOf (code f)) es (s .start-field) in
+    let fe : fieldAt (endPlace i) b ≡ fieldOf (codeAt b (endPlace i)) = subst (λ f. f ≡ fieldOf (code f)) ee (s .end-field) in
+    let fp : fieldAt (parentPlace i) b ≡ fieldOf (codeAt b (parentPlace i)) = subst (λ f. f ≡ fieldOf (code f)) ep (s .parent-field) in
+    let is : startPlace i + fieldSize ≤ length b = omega arith in
+    let ie : endPlace i + fieldSize ≤ length b = omega arith in
+    record {
+      start-code = cs;
+      start-at = (is, code-held b (startPlace i) _ cs fs);
+      start-side = record { inside = is; field = fs; side = inr cs };
+      end-code = ce;
+      end-at = (ie, code-held b (endPlace i) _ ce fe);
+      end-side = record { inside = ie; field = fe; side = inr ce };
+      parent-side = record { inside = omega arith; field = fp; side = subst (λ f. (code f ≡ []) ⊎ IsCode (code f)) ep (s .parent-side) };
+      inner = subst (λ f. Below (code f) (codeAt b (endPlace i))) es (subst (λ f. Below (code (fieldAt startAt (labelBytes b i))) (code f)) ee (s .spans));
+    }
+
+-- two fields compare as their codes
+pub codes-below : (b f g : List ℕ) (x y : ℕ) → CodeAt b x → CodeAt b y → f ≡ fieldAt x b → g ≡ fieldAt y b
+    → below? f g ≡ below? (codeAt b x) (codeAt b y)
+codes-below b f g x y h k d e = rw (d, e) (held-below (fieldAt x b) (fieldAt y b) (h .1) (k .1))
+
+pub sides-same : (b f g : List ℕ) (x y : ℕ) → SideAt b x → SideAt b y → f ≡ fieldAt x b → g ≡ fieldAt y b
+    → same? f g ≡ same? (codeAt b x) (codeAt b y)
+sides-same b f g x y h k d e =
+    ap (λ (z : List ℕ). same? z g) (d ∙ h .field) ∙ ap (same? (fieldOf (codeAt b x))) (e ∙ k .field)
+    ∙ same?-field (codeAt b x) (codeAt b y) (h .side) (k .side)
+
+-- three tests in a row
+pub all-three : (a b c r : Bool) → a ≡ true → b ≡ true → r ≡ c → r ≡ (a && (b && c))
+all-three a b c r d e f = rw (d, e) f
+
+pub second-fails : (a b c : Bool) → a ≡ true → b ≡ false → false ≡ (a && (b && c))
+second-fails a b c d e = rw (d, e) refl
+
+pub first-fails : (a b : Bool) → a ≡ false → false ≡ (a && b)
+first-fails a b d = rw d refl
+
+-- a line among n has its place, and a sound label there its codes
+pub has-place : (b : List ℕ) (n i : ℕ) → HasEntries b n → i < n → HasPlace b i
+has-place b n i h k = (omega arith, omega arith)
+
+pub label-codes : (b : List ℕ) (n i : ℕ) → HasEntries b n → HasLabel b n i → SoundAt b i
+label-codes b n i h k = sound-at b i (has-place b n i h (k .0)) (k .1)

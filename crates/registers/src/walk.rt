@@ -1,0 +1,149 @@
+// The soundness of a register's entries: an entry is sound when its row of children is, a row when each entry in it is.
+ghost use mathlib.Core.Path.{_≡_};
+ghost use mathlib.Core.Bool.{true, _&&_};
+ghost use Prim.Native.Nat.{_+_, _≤_, _<_};
+ghost use lib.ListN.{length};
+ghost use Rattle.digits.specs.Order.{below?};
+ghost use Rattle.codes.specs.Reading.{same?};
+ghost use Rattle.registers.specs.Layout.{mostEntries, startPlace, endPlace, parentPlace, HasPlace};
+ghost use Rattle.registers.specs.Entries.{codeAt};
+ghost use Rattle.registers.specs.Sound.{labelBytes, soundLabel?, childrenFrom, entryFrom, CodeAt, SideAt, HasEntries, HasLabel};
+use crate::DEEPEST;
+use crate::ENTRY_LABEL;
+use crate::entry_place;
+use labels::END;
+use labels::LABEL;
+use labels::PARENT;
+use labels::START;
+
+// Where a walk came to, or that what it met is not sound.
+pub enum Walked {
+    To(usize),
+    Unsound,
+}
+
+// An entry under its parent, between the code at `low` and its parent's end, with its row of children.
+pub(crate) fn entry(
+    register: &[u8],
+    n: usize,
+    at: usize,
+    low: usize,
+    parent: usize,
+    depth: u32,
+) -> Walked
+    requires entries { ⌜ HasEntries (now register) n ⌝ }
+    requires label { ⌜ HasLabel (now register) n at ⌝ }
+    requires parent { ⌜ HasLabel (now register) n parent ⌝ }
+    requires low { ⌜ CodeAt (now register) low ⌝ }
+    ensures walked { λ r. ⌜ r ≡ entryFrom (now (register .entry)) n parent depth (codeAt (now (register .entry)) low) at ⌝ }
+{
+    if DEEPEST < depth {
+        return Walked::Unsound;
+    }
+    if in_place(register, at, low, parent) {
+        return row(register, n, at + 1, at, depth + 1);
+    }
+    Walked::Unsound
+}
+
+// The row of children of an entry, from an entry on: one that does not start below the parent's end is no child.
+pub(crate) fn row(register: &[u8], n: usize, at: usize, parent: usize, depth: u32) -> Walked
+    requires entries { ⌜ HasEntries (now register) n ⌝ }
+    requires parent { ⌜ HasLabel (now register) n parent ⌝ }
+    requires place { ⌜ at ≤ n ⌝ }
+    ensures walked { λ r. ⌜ r
+        ≡ childrenFrom (now (register .entry)) n parent depth (codeAt (now (register .entry)) (startPlace parent)) at ⌝ }
+{
+    let mut low = start_place(parent);
+    let mut i = at;
+    while i < n {
+        if !sound_label(register, i) {
+            return Walked::Unsound;
+        }
+        if !fields_below(register, start_place(i), end_place(parent)) {
+            return Walked::To(i);
+        }
+        match entry(register, n, i, low, parent, depth) {
+            Walked::To(next) => {
+                low = end_place(i);
+                i = next;
+            }
+            Walked::Unsound => {
+                return Walked::Unsound;
+            }
+        }
+    }
+    Walked::To(i)
+}
+
+// Above the code at `low`, its end below its parent's, with its parent's start.
+fn in_place(register: &[u8], at: usize, low: usize, parent: usize) -> bool
+    requires place { ⌜ HasPlace (now register) at ⌝ }
+    requires label { ⌜ soundLabel? (now register) at ≡ true ⌝ }
+    requires parent { ⌜ HasPlace (now register) parent ⌝ }
+    requires above { ⌜ soundLabel? (now register) parent ≡ true ⌝ }
+    requires low { ⌜ CodeAt (now register) low ⌝ }
+    ensures place { λ r. ⌜ r ≡ (below? (codeAt (now (register .entry)) low) (codeAt (now (register .entry)) (startPlace at))
+        && (below? (codeAt (now (register .entry)) (endPlace at)) (codeAt (now (register .entry)) (endPlace parent))
+        && same? (codeAt (now (register .entry)) (parentPlace at)) (codeAt (now (register .entry)) (startPlace parent)))) ⌝ }
+{
+    if fields_below(register, low, start_place(at)) {
+        if fields_below(register, end_place(at), end_place(parent)) {
+            return fields_same(register, parent_place(at), start_place(parent));
+        }
+    }
+    false
+}
+
+// The code of one field is below that of another.
+fn fields_below(register: &[u8], x: usize, y: usize) -> bool
+    requires codes { ⌜ CodeAt (now register) x × CodeAt (now register) y ⌝ }
+    ensures below { λ r. ⌜ r ≡ below? (codeAt (now (register .entry)) x) (codeAt (now (register .entry)) y) ⌝ }
+{
+    codes::below(labels::field(register, x), labels::field(register, y))
+}
+
+// Two fields, each of a code or empty, hold the same.
+fn fields_same(register: &[u8], x: usize, y: usize) -> bool
+    requires sides { ⌜ SideAt (now register) x × SideAt (now register) y ⌝ }
+    ensures same { λ r. ⌜ r ≡ same? (codeAt (now (register .entry)) x) (codeAt (now (register .entry)) y) ⌝ }
+{
+    codes::same(labels::field(register, x), labels::field(register, y))
+}
+
+fn sound_label(register: &[u8], i: usize) -> bool
+    requires place { ⌜ HasPlace (now register) i ⌝ }
+    ensures sound { λ r. ⌜ r ≡ soundLabel? (now (register .entry)) i ⌝ }
+{
+    labels::sound(label(register, i))
+}
+
+fn label(register: &[u8], i: usize) -> &[u8]
+    requires place { ⌜ HasPlace (now register) i ⌝ }
+    ensures part { λ r. ⌜ now r ≡ labelBytes (now (register .entry)) i ⌝ }
+{
+    let at = entry_place(i) + ENTRY_LABEL;
+    let end = at + LABEL;
+    &register[at..end]
+}
+
+fn start_place(i: usize) -> usize
+    requires most { ⌜ i ≤ mostEntries ⌝ }
+    ensures place { λ r. ⌜ r ≡ startPlace i ⌝ }
+{
+    entry_place(i) + ENTRY_LABEL + START
+}
+
+fn end_place(i: usize) -> usize
+    requires most { ⌜ i ≤ mostEntries ⌝ }
+    ensures place { λ r. ⌜ r ≡ endPlace i ⌝ }
+{
+    entry_place(i) + ENTRY_LABEL + END
+}
+
+fn parent_place(i: usize) -> usize
+    requires most { ⌜ i ≤ mostEntries ⌝ }
+    ensures place { λ r. ⌜ r ≡ parentPlace i ⌝ }
+{
+    entry_place(i) + ENTRY_LABEL + PARENT
+}
