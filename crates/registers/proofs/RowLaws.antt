@@ -5,22 +5,22 @@ use mathlib.Core.List.{List, [], _∷_}
 use Prim.Native.Nat.{ℕ, zero, suc, pred, _+_, _-_, _≤_, _<_}
 use native.Mathlib.Numerals.{add-one}
 use native.Mathlib.Omega.{arith}
-use lib.Dec.{ltb}
+use lib.Dec.{eqb, ltb}
 use lib.ListN.{length, drop}
-use borrow.Author.Tests.{lt-ltb}
+use borrow.Author.Tests.{eq-eqb, ne-eqb, lt-ltb}
 use Rattle.digits.specs.Order.{Digits, Below, below?}
 use Rattle.digits.proofs.OrderLaws.{below?-true}
 use Rattle.codes.specs.Code.{IsCode, code?}
 use Rattle.codes.specs.Reading.{same?}
 use Rattle.codes.proofs.TestLaws.{true-code?}
 use Rattle.trees.specs.Labelled.{Name, Entry, starts, ends}
-use Rattle.trees.specs.Check.{under?, Rest, rest, fault, thenFrom, rowWalk}
+use Rattle.trees.specs.Check.{under?, Rest, rest, fault, thenFrom, whole?, rowWalk, treeWalk?}
 use Rattle.trees.proofs.WalkLaws.{row-rest, row-none, row-out, row-bad, row-on}
 use Rattle.registers.specs.declared.walk.Walked.{Walked}
 use Rattle.registers.specs.declared.walk.Walked.the-variants.{To, Unsound}
 use Rattle.registers.specs.Layout.{startPlace, endPlace, parentPlace, HasPlace}
 use Rattle.registers.specs.Entries.{codeAt, entryAt}
-use Rattle.registers.specs.Sound.{soundLabel?, lineAt, linesFrom, entry?, placed, rowFrom, levels, childrenFrom, entryFrom}
+use Rattle.registers.specs.Sound.{soundLabel?, tree?, lineAt, linesFrom, entry?, placed, rowFrom, levels, childrenFrom, entryFrom}
 use Rattle.registers.proofs.SoundLaws.{SoundAt, sound-at}
 
 -- lines by their numbers
@@ -87,8 +87,15 @@ pub entry-test : (b : List ℕ) (i k : ℕ) (p l r : Digits) → HasPlace b i �
     ≡ (ltb 0 k && (below? l (codeAt b (startPlace i)) && (below? (codeAt b (endPlace i)) r && same? (codeAt b (parentPlace i)) p)))
 entry-test b i k p l r h t c =
     let s = sound-at b i h t in
-    rw (line-start b i t, line-end b i t, line-parent b i t, true-code? _ (s .start-code), true-code? _ (s .end-code),
-      below?-true _ _ (s .inner), under-code _ r c) refl
+    rw (
+      line-start b i t,
+      line-end b i t,
+      line-parent b i t,
+      true-code? _ (s .start-code),
+      true-code? _ (s .end-code),
+      below?-true _ _ (s .inner),
+      under-code _ r c,
+    ) refl
 
 -- where a walk came to, by what is left
 to-is : {m n : ℕ} → To m ≡ To n → m ≡ n
@@ -213,6 +220,7 @@ module _ (b : List ℕ) (n parent depth : ℕ) (l : Digits) (i : ℕ) (h : i < n
       stops : (m : Rest (Entry Name)) → placed n m ≡ Unsound → onward m ≡ Unsound
       stops fault e = refl
       stops (rest us) e = never (sym e)
+
       go : (o : Bool) → entry? k p l r (lineAt b i) ≡ o
           → cond o (childrenFrom b n i (depth + 1) (codeAt b (startPlace i)) (i + 1)) Unsound ≡ Unsound
           → childrenFrom b n parent depth l i ≡ Unsound
@@ -240,3 +248,55 @@ module _ (b : List ℕ) (n parent depth : ℕ) (l : Digits) (i : ℕ) where
 
     pub entry-no : placed? ≡ false → Unsound ≡ entryFrom b n parent depth l i
     entry-no e = rw (entry-is, e) refl
+
+-- the tree test: the root's label, its parent start, and whether its children and theirs are all the rest
+module _ (b : List ℕ) (n : ℕ) (some : 0 < n) where
+  first-line : linesFrom b 0 n ≡ lineAt b 0 ∷ linesFrom b 1 (n - 1)
+  first-line = let e : n ≡ suc (n - 1) = omega arith in ap (linesFrom b 0) e
+
+  abbrev inside : Rest (Entry Name)
+  inside = rowWalk starts ends entry? 63 (lineAt b 0 .start) (lineAt b 0 .start) (lineAt b 0 .end) (linesFrom b 1 (n - 1))
+
+  tree-is : tree? b n ≡ (entry? 64 [] [] [] (lineAt b 0) && whole? inside)
+  unfolding tree?
+  tree-is = ap (treeWalk? starts ends entry? 64) first-line
+
+  pub tree-blank : soundLabel? b 0 ≡ false → false ≡ tree? b n
+  tree-blank t = sym (tree-is ∙ ap (λ (z : Bool). z && whole? inside) (blank-fails 64 [] [] [] (lineAt b 0) (line-blank b 0 t)))
+
+  module _ (h : HasPlace b 0) (t : soundLabel? b 0 ≡ true) where
+    root-is : entry? 64 [] [] [] (lineAt b 0) ≡ same? (codeAt b (parentPlace 0)) []
+    root-is =
+        let s = sound-at b 0 h t in
+        rw (line-start b 0 t, line-end b 0 t, line-parent b 0 t, true-code? _ (s .start-code), true-code? _ (s .end-code),
+          below?-true _ _ (s .inner), nothing-below _ (s .start-code)) refl
+
+    pub tree-child : same? (codeAt b (parentPlace 0)) [] ≡ false → false ≡ tree? b n
+    tree-child o = sym (tree-is ∙ ap (λ (z : Bool). z && whole? inside) (root-is ∙ o))
+
+    inside-is : childrenFrom b n 0 1 (codeAt b (startPlace 0)) 1 ≡ placed n inside
+    unfolding rowFrom
+    inside-is = rw (line-start b 0 t, line-end b 0 t) refl
+
+    tree-whole : same? (codeAt b (parentPlace 0)) [] ≡ true → tree? b n ≡ whole? inside
+    tree-whole o = tree-is ∙ ap (λ (z : Bool). z && whole? inside) (root-is ∙ o)
+
+    all-used : (m : Rest (Entry Name)) → inside ≡ m → (end : ℕ) → placed n m ≡ To end → eqb end n ≡ whole? m
+    all-used fault e end g = never g
+    all-used (rest []) e end g = let z : end ≡ n = sym (to-is g) ∙ omega arith in eq-eqb end n z
+    all-used (rest (u ∷ us)) e end g =
+        let q = row-rest starts ends entry? 63 (lineAt b 0 .start) (lineAt b 0 .start) (lineAt b 0 .end) (linesFrom b 1 (n - 1)) (u ∷ us) e in
+        let w = lines-length b 1 (n - 1) in
+        let v : n - suc (length us) ≡ end = to-is g in
+        ne-eqb end n (λ z. omega (arith, q .0))
+
+    pub tree-end : same? (codeAt b (parentPlace 0)) [] ≡ true → (end : ℕ) → childrenFrom b n 0 1 (codeAt b (startPlace 0)) 1 ≡ To end
+        → eqb end n ≡ tree? b n
+    tree-end o end g = all-used inside refl end (sym inside-is ∙ g) ∙ sym (tree-whole o)
+
+    pub tree-un : same? (codeAt b (parentPlace 0)) [] ≡ true → childrenFrom b n 0 1 (codeAt b (startPlace 0)) 1 ≡ Unsound → false ≡ tree? b n
+    tree-un o g = sym (tree-whole o ∙ go inside (sym inside-is ∙ g))
+      where
+        go : (m : Rest (Entry Name)) → placed n m ≡ Unsound → whole? m ≡ false
+        go fault e = refl
+        go (rest us) e = never (sym e)

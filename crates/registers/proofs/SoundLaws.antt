@@ -2,7 +2,7 @@
 use mathlib.Core.Path.{_≡_, refl, sym, ap, _∙_, subst}
 use mathlib.Core.Logic.{_⊎_, inl, inr}
 use mathlib.Core.Bool.{Bool, true, false, cond, _&&_}
-use mathlib.Core.List.{List, []}
+use mathlib.Core.List.{List, [], _∷_}
 use Prim.Native.Nat.{ℕ, zero, suc, _+_, _-_, _≤_, _<_}
 use native.Mathlib.Omega.{arith}
 use lib.ListN.{length, take, drop}
@@ -11,8 +11,10 @@ use Rattle.digits.specs.Order.{Digits, Below, below?}
 use Rattle.numbers.proofs.PutLaws.{take-drop}
 use Rattle.codes.specs.Code.{fieldSize, IsCode}
 use Rattle.codes.specs.Field.{fieldOf}
-use Rattle.codes.specs.Reading.{read, sideOf, same?}
-use Rattle.codes.proofs.ReadingLaws.{Sided, read-field, same?-field}
+use Rattle.codes.specs.declared.field.Kind.{Kind}
+use Rattle.codes.specs.declared.field.Kind.the-variants.{Full, Empty, Unsound}
+use Rattle.codes.specs.Reading.{read, sideOf, kindOf, same?}
+use Rattle.codes.proofs.ReadingLaws.{read-field, read-nothing, same?-field}
 use Rattle.labels.specs.Label.{labelSize, startAt, endAt, parentAt, fieldAt, codeHeld?, sound?, labelOf}
 use Rattle.labels.proofs.LabelLaws.{Sound, sound→, held-below}
 use Rattle.registers.specs.Layout.{entryPlace, labelAt, startPlace, endPlace, parentPlace, HasPlace}
@@ -96,3 +98,25 @@ has-place b n i h k = (omega arith, omega arith)
 
 pub label-codes : (b : List ℕ) (n i : ℕ) → HasEntries b n → HasLabel b n i → SoundAt b i
 label-codes b n i h k = sound-at b i (has-place b n i h (k .0)) (k .1)
+
+-- an empty field by its kind
+abbrev emptyKind : Kind → Bool
+emptyKind Full = false
+emptyKind Empty = true
+emptyKind Unsound = false
+
+code-some : (x : Digits) → IsCode x → same? x [] ≡ false
+code-some [] c = absurd (c .formed)
+code-some (d ∷ x) c = refl
+
+side-kind : (b : List ℕ) (at : ℕ) → SideAt b at → emptyKind (kindOf (read (fieldAt at b))) ≡ same? (codeAt b at) []
+side-kind b at s = go (s .side)
+  where
+    go : (codeAt b at ≡ []) ⊎ IsCode (codeAt b at) → emptyKind (kindOf (read (fieldAt at b))) ≡ same? (codeAt b at) []
+    go (inl e) =
+        ap (λ r. emptyKind (kindOf r)) (ap read (s .field ∙ ap fieldOf e) ∙ read-nothing) ∙ sym (ap (λ x. same? x []) e)
+    go (inr c) = ap (λ r. emptyKind (kindOf r)) (ap read (s .field) ∙ read-field (codeAt b at) c) ∙ sym (code-some (codeAt b at) c)
+
+pub empty-kind : (b f : List ℕ) (at : ℕ) (k : Kind) → SideAt b at → f ≡ fieldAt at b → k ≡ kindOf (read f)
+    → emptyKind k ≡ same? (codeAt b at) []
+empty-kind b f at k s e g = ap emptyKind (g ∙ ap (λ z. kindOf (read z)) e) ∙ side-kind b at s

@@ -12,7 +12,7 @@ use Rattle.codes.specs.Field.{fieldOf}
 use Rattle.codes.specs.Reading.{read, same?}
 use Rattle.labels.specs.Label.{labelSize, fieldAt, codeHeld?, sound?}
 use Rattle.trees.specs.Labelled.{Name, Entry, starts, ends}
-use Rattle.trees.specs.Check.{under?, Rest, rest, fault, rowWalk}
+use Rattle.trees.specs.Check.{under?, Rest, rest, fault, rowWalk, treeWalk?}
 use Rattle.registers.specs.declared.walk.Walked.{Walked}
 use Rattle.registers.specs.declared.walk.Walked.the-variants.{To, Unsound}
 use Rattle.registers.specs.Layout.{mostEntries, deepest, labelAt, entryPlace, startPlace, endPlace, parentPlace}
@@ -65,6 +65,10 @@ entryFrom bytes n parent depth l i =
     cond (entry? (levels depth) (codeAt bytes (startPlace parent)) l (codeAt bytes (endPlace parent)) (lineAt bytes i))
     (childrenFrom bytes n i (depth + 1) (codeAt bytes (startPlace i)) (i + 1))
     Unsound
+
+-- 01, Register: the tree test of its n lines
+unfoldable pub tree? : List ℕ → ℕ → Bool
+tree? bytes n = treeWalk? starts ends entry? (suc deepest) (linesFrom bytes 0 n)
 
 -- a field of the buffer that holds a code
 abbrev pub CodeAt : List ℕ → ℕ → Type 0

@@ -1,16 +1,18 @@
 // The soundness of a register's entries: an entry is sound when its row of children is, a row when each entry in it is.
 ghost use mathlib.Core.Path.{_≡_};
 ghost use mathlib.Core.Bool.{true, _&&_};
+ghost use mathlib.Core.List.{[]};
 ghost use Prim.Native.Nat.{_+_, _≤_, _<_};
 ghost use lib.ListN.{length};
 ghost use Rattle.digits.specs.Order.{below?};
 ghost use Rattle.codes.specs.Reading.{same?};
 ghost use Rattle.registers.specs.Layout.{mostEntries, startPlace, endPlace, parentPlace, HasPlace};
 ghost use Rattle.registers.specs.Entries.{codeAt};
-ghost use Rattle.registers.specs.Sound.{labelBytes, soundLabel?, childrenFrom, entryFrom, CodeAt, SideAt, HasEntries, HasLabel};
+ghost use Rattle.registers.specs.Sound.{labelBytes, soundLabel?, tree?, childrenFrom, entryFrom, CodeAt, SideAt, HasEntries, HasLabel};
 use crate::DEEPEST;
 use crate::ENTRY_LABEL;
 use crate::entry_place;
+use codes::Kind;
 use labels::END;
 use labels::LABEL;
 use labels::PARENT;
@@ -20,6 +22,37 @@ use labels::START;
 pub enum Walked {
     To(usize),
     Unsound,
+}
+
+// One root, with an empty parent start, whose children and what lies under them are all other entries.
+pub(crate) fn tree(register: &[u8], n: usize) -> bool
+    requires entries { ⌜ HasEntries (now register) n ⌝ }
+    requires some { ⌜ 0 < n ⌝ }
+    ensures tree { λ r. ⌜ r ≡ tree? (now (register .entry)) n ⌝ }
+{
+    if !sound_label(register, 0) {
+        return false;
+    }
+    if !orphan(register) {
+        return false;
+    }
+    match row(register, n, 1, 0, 1) {
+        Walked::To(end) => end == n,
+        Walked::Unsound => false,
+    }
+}
+
+// The first entry's parent start is empty.
+fn orphan(register: &[u8]) -> bool
+    requires place { ⌜ HasPlace (now register) 0 ⌝ }
+    requires label { ⌜ soundLabel? (now register) 0 ≡ true ⌝ }
+    ensures orphan { λ r. ⌜ r ≡ same? (codeAt (now (register .entry)) (parentPlace 0)) [] ⌝ }
+{
+    match codes::kind_of(labels::field(register, parent_place(0))) {
+        Kind::Empty => true,
+        Kind::Full => false,
+        Kind::Unsound => false,
+    }
 }
 
 // An entry under its parent, between the code at `low` and its parent's end, with its row of children.

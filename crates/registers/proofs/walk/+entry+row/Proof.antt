@@ -89,9 +89,18 @@ pub +entry+row-spec : {M : Type 1} → statement M
     let a = p .before .before .before in
     entry-no (a .args .register .now) (a .args .n) (a .args .parent) (a .args .depth) (codeAt (a .args .register .now) (a .args .low)) (a .args .at)
     (has-place (a .args .register .now) (a .args .n) (a .args .at) (a .pre .1 .0) (a .pre .1 .1 .0 .0)) (a .pre .1 .1 .0 .1) (label-codes (a .args .register .now) (a .args .n) _ (a .pre .1 .0) (a .pre .1 .1 .1 .0) .end-code) (omega arith) (sym (p .in-place .ensures) ∙ c .if2 .left)))
-    (λ t. row-lts.spec
-    (start-place-reads.Asked, start-place-reads.Learnt, sound-label-reads.Asked, sound-label-reads.Learnt,
-      end-place-reads.Asked, end-place-reads.Learnt, fields-below-reads.Asked, fields-below-reads.Learnt, entry-below t, entry.Post)
+    (λ t. row-lts.spec (
+      start-place-reads.Asked,
+      start-place-reads.Learnt,
+      sound-label-reads.Asked,
+      sound-label-reads.Learnt,
+      end-place-reads.Asked,
+      end-place-reads.Learnt,
+      fields-below-reads.Asked,
+      fields-below-reads.Learnt,
+      entry-below t,
+      entry.Post,
+    )
     (row-at t)
     row.Post
     row-Inv-loop
@@ -102,9 +111,12 @@ pub +entry+row-spec : {M : Type 1} → statement M
     (λ c.
     let a = c .before .before in
     let b = a .args .register .now in
-    let e = c .start-place .ensures in
-    (omega arith, a .pre .1 .1 .1, subst (CodeAt b) (sym e) (label-codes (a .args .register .now) (a .args .n) _ (a .pre .1 .0) (a .pre .1 .1 .0) .start-at),
-    ap (λ (k : ℕ). childrenFrom b (a .args .n) (a .args .parent) (a .args .depth) (codeAt b k) (a .args .at)) (sym e)))
+    let e = c .start-place .ensures in (
+      omega arith,
+      a .pre .1 .1 .1,
+      subst (CodeAt b) (sym e) (label-codes (a .args .register .now) (a .args .n) _ (a .pre .1 .0) (a .pre .1 .1 .0) .start-at),
+      ap (λ (k : ℕ). childrenFrom b (a .args .n) (a .args .parent) (a .args .depth) (codeAt b k) (a .args .at)) (sym e),
+    ))
     (λ c κs.
     let a = c .before .before .before .before in
     has-place (a .args .register .now) (a .args .n) (c .before .loop .i) (a .pre .1 .0) (c .loop-test .taken))
@@ -122,10 +134,11 @@ pub +entry+row-spec : {M : Type 1} → statement M
     (λ c κs.
     let a = c .before .before .before .before .before .before .before .before in
     let s = c .before .before .before in
-    let b = a .args .register .now in
-    (subst (CodeAt b) (sym (c .before .start-place2 .ensures))
-    (label-codes (a .args .register .now) (a .args .n) _ (a .pre .1 .0) (s .before .loop-test .taken, sym (s .sound-label .ensures) ∙ not-false _ (c .before .before .if1 .left)) .start-at),
-    subst (CodeAt b) (sym (c .end-place .ensures)) (label-codes (a .args .register .now) (a .args .n) _ (a .pre .1 .0) (a .pre .1 .1 .0) .end-at)))
+    let b = a .args .register .now in (
+      subst (CodeAt b) (sym (c .before .start-place2 .ensures))
+          (label-codes (a .args .register .now) (a .args .n) _ (a .pre .1 .0) (s .before .loop-test .taken, sym (s .sound-label .ensures) ∙ not-false _ (c .before .before .if1 .left)) .start-at),
+      subst (CodeAt b) (sym (c .end-place .ensures)) (label-codes (a .args .register .now) (a .args .n) _ (a .pre .1 .0) (a .pre .1 .1 .0) .end-at),
+    ))
     (λ c.
     let g = c .before in
     let s = g .before .before .before .before in
@@ -134,8 +147,8 @@ pub +entry+row-spec : {M : Type 1} → statement M
     let b = a .args .register .now in
     let ok : soundLabel? b (l .loop .i) ≡ true = sym (s .sound-label .ensures) ∙ not-false _ (g .before .before .before .if1 .left) in
     let low : g .fields-below .result ≡ below? (codeAt b (startPlace (l .loop .i))) (codeAt b (endPlace (a .args .parent))) =
-        g .fields-below .ensures ∙ ap (λ (k : ℕ). below? (codeAt b k) (codeAt b (g .before .end-place .result))) (g .before .before .start-place2 .ensures)
-        ∙ ap (λ (k : ℕ). below? (codeAt b (startPlace (l .loop .i))) (codeAt b k)) (g .before .end-place .ensures) in
+    g .fields-below .ensures ∙ ap (λ (k : ℕ). below? (codeAt b k) (codeAt b (g .before .end-place .result))) (g .before .before .start-place2 .ensures)
+    ∙ ap (λ (k : ℕ). below? (codeAt b (startPlace (l .loop .i))) (codeAt b k)) (g .before .end-place .ensures) in
     row-stops b (a .args .n) _ _ _ _ (l .loop .i) (s .before .loop-test .taken) (label-codes (a .args .register .now) (a .args .n) _ (a .pre .1 .0) (a .pre .1 .1 .0) .end-code) ok
     (sym low ∙ not-true _ (c .if2 .taken)) ∙ sym (l .loop .inv .3))
     (λ c κs.
@@ -146,8 +159,8 @@ pub +entry+row-spec : {M : Type 1} → statement M
     let b = a .args .register .now in
     let ok : soundLabel? b (l .loop .i) ≡ true = sym (s .sound-label .ensures) ∙ not-false _ (g .before .before .before .if1 .left) in
     let low : g .fields-below .result ≡ below? (codeAt b (startPlace (l .loop .i))) (codeAt b (endPlace (a .args .parent))) =
-        g .fields-below .ensures ∙ ap (λ (k : ℕ). below? (codeAt b k) (codeAt b (g .before .end-place .result))) (g .before .before .start-place2 .ensures)
-        ∙ ap (λ (k : ℕ). below? (codeAt b (startPlace (l .loop .i))) (codeAt b k)) (g .before .end-place .ensures) in
+    g .fields-below .ensures ∙ ap (λ (k : ℕ). below? (codeAt b k) (codeAt b (g .before .end-place .result))) (g .before .before .start-place2 .ensures)
+    ∙ ap (λ (k : ℕ). below? (codeAt b (startPlace (l .loop .i))) (codeAt b k)) (g .before .end-place .ensures) in
     (omega (arith, s .before .loop-test .taken, l .loop .inv .0), (a .pre .1 .0, ((s .before .loop-test .taken, ok), (a .pre .1 .1 .0, l .loop .inv .2)))))
     (λ c. search needs)
     (λ c κs.
@@ -161,11 +174,11 @@ pub +entry+row-spec : {M : Type 1} → statement M
     let b = a .args .register .now in
     let ok : soundLabel? b (l .loop .i) ≡ true = sym (s .sound-label .ensures) ∙ not-false _ (g .before .before .before .if1 .left) in
     let low : g .fields-below .result ≡ below? (codeAt b (startPlace (l .loop .i))) (codeAt b (endPlace (a .args .parent))) =
-        g .fields-below .ensures ∙ ap (λ (k : ℕ). below? (codeAt b k) (codeAt b (g .before .end-place .result))) (g .before .before .start-place2 .ensures)
-        ∙ ap (λ (k : ℕ). below? (codeAt b (startPlace (l .loop .i))) (codeAt b k)) (g .before .end-place .ensures) in
+    g .fields-below .ensures ∙ ap (λ (k : ℕ). below? (codeAt b k) (codeAt b (g .before .end-place .result))) (g .before .before .start-place2 .ensures)
+    ∙ ap (λ (k : ℕ). below? (codeAt b (startPlace (l .loop .i))) (codeAt b k)) (g .before .end-place .ensures) in
     let n = c .before .before in
     let w = row-to b (a .args .n) (a .args .parent) (a .args .depth) (codeAt b (l .loop .low)) (l .loop .i) (s .before .loop-test .taken)
-        (label-codes (a .args .register .now) (a .args .n) _ (a .pre .1 .0) (a .pre .1 .1 .0) .end-code) ok (sym low ∙ not-false _ (n .before .before .before .if2 .left)) _ (sym (n .before .before .entry .ensures) ∙ n .next .given .1) in
+    (label-codes (a .args .register .now) (a .args .n) _ (a .pre .1 .0) (a .pre .1 .1 .0) .end-code) ok (sym low ∙ not-false _ (n .before .before .before .if2 .left)) _ (sym (n .before .before .entry .ensures) ∙ n .next .given .1) in
     omega (arith, w .later, w .inside))
     (λ c.
     let g = c .before .before .before .before .before .before in
@@ -175,14 +188,16 @@ pub +entry+row-spec : {M : Type 1} → statement M
     let b = a .args .register .now in
     let ok : soundLabel? b (l .loop .i) ≡ true = sym (s .sound-label .ensures) ∙ not-false _ (g .before .before .before .if1 .left) in
     let low : g .fields-below .result ≡ below? (codeAt b (startPlace (l .loop .i))) (codeAt b (endPlace (a .args .parent))) =
-        g .fields-below .ensures ∙ ap (λ (k : ℕ). below? (codeAt b k) (codeAt b (g .before .end-place .result))) (g .before .before .start-place2 .ensures)
-        ∙ ap (λ (k : ℕ). below? (codeAt b (startPlace (l .loop .i))) (codeAt b k)) (g .before .end-place .ensures) in
+    g .fields-below .ensures ∙ ap (λ (k : ℕ). below? (codeAt b k) (codeAt b (g .before .end-place .result))) (g .before .before .start-place2 .ensures)
+    ∙ ap (λ (k : ℕ). below? (codeAt b (startPlace (l .loop .i))) (codeAt b k)) (g .before .end-place .ensures) in
     let n = c .before .before in
     let w = row-to b (a .args .n) (a .args .parent) (a .args .depth) (codeAt b (l .loop .low)) (l .loop .i) (s .before .loop-test .taken)
-        (label-codes (a .args .register .now) (a .args .n) _ (a .pre .1 .0) (a .pre .1 .1 .0) .end-code) ok (sym low ∙ not-false _ (n .before .before .before .if2 .left)) _ (sym (n .before .before .entry .ensures) ∙ n .next .given .1) in
-    (omega (arith, w .later, l .loop .inv .0), w .inside,
-    subst (CodeAt b) (sym (c .end-place2 .ensures)) (label-codes (a .args .register .now) (a .args .n) _ (a .pre .1 .0) (s .before .loop-test .taken, ok) .end-at),
-    l .loop .inv .3 ∙ w .same ∙ ap (λ (k : ℕ). childrenFrom b (a .args .n) (a .args .parent) (a .args .depth) (codeAt b k) (n .next .given .0 .0)) (sym (c .end-place2 .ensures))))
+    (label-codes (a .args .register .now) (a .args .n) _ (a .pre .1 .0) (a .pre .1 .1 .0) .end-code) ok (sym low ∙ not-false _ (n .before .before .before .if2 .left)) _ (sym (n .before .before .entry .ensures) ∙ n .next .given .1) in (
+      omega (arith, w .later, l .loop .inv .0),
+      w .inside,
+      subst (CodeAt b) (sym (c .end-place2 .ensures)) (label-codes (a .args .register .now) (a .args .n) _ (a .pre .1 .0) (s .before .loop-test .taken, ok) .end-at),
+      l .loop .inv .3 ∙ w .same ∙ ap (λ (k : ℕ). childrenFrom b (a .args .n) (a .args .parent) (a .args .depth) (codeAt b k) (n .next .given .0 .0)) (sym (c .end-place2 .ensures)),
+    ))
     (λ c. search needs)
     (λ c.
     let g = c .before .before .before .before in
@@ -192,8 +207,8 @@ pub +entry+row-spec : {M : Type 1} → statement M
     let b = a .args .register .now in
     let ok : soundLabel? b (l .loop .i) ≡ true = sym (s .sound-label .ensures) ∙ not-false _ (g .before .before .before .if1 .left) in
     let low : g .fields-below .result ≡ below? (codeAt b (startPlace (l .loop .i))) (codeAt b (endPlace (a .args .parent))) =
-        g .fields-below .ensures ∙ ap (λ (k : ℕ). below? (codeAt b k) (codeAt b (g .before .end-place .result))) (g .before .before .start-place2 .ensures)
-        ∙ ap (λ (k : ℕ). below? (codeAt b (startPlace (l .loop .i))) (codeAt b k)) (g .before .end-place .ensures) in
+    g .fields-below .ensures ∙ ap (λ (k : ℕ). below? (codeAt b k) (codeAt b (g .before .end-place .result))) (g .before .before .start-place2 .ensures)
+    ∙ ap (λ (k : ℕ). below? (codeAt b (startPlace (l .loop .i))) (codeAt b k)) (g .before .end-place .ensures) in
     sym (l .loop .inv .3 ∙ row-un b (a .args .n) (a .args .parent) (a .args .depth) (codeAt b (l .loop .low)) (l .loop .i) (s .before .loop-test .taken)
     (label-codes (a .args .register .now) (a .args .n) _ (a .pre .1 .0) (a .pre .1 .1 .0) .end-code) ok (sym low ∙ not-false _ (c .before .before .before .if2 .left)) (sym (c .before .before .entry .ensures) ∙ c .enum-told .given .1)))
     (λ c.

@@ -58,10 +58,10 @@ returns c =
     let a = f .before .before .before in
     let b = a .args .register .now in
     let first : below? (codeAt b (a .args .low)) (codeAt b (startPlace (a .args .at))) ≡ _ =
-        sym (f .fields-below .ensures ∙ ap (λ (k : ℕ). below? (codeAt b (a .args .low)) (codeAt b k)) (f .before .start-place .ensures)) in
+    sym (f .fields-below .ensures ∙ ap (λ (k : ℕ). below? (codeAt b (a .args .low)) (codeAt b k)) (f .before .start-place .ensures)) in
     let second : below? (codeAt b (endPlace (a .args .at))) (codeAt b (endPlace (a .args .parent))) ≡ _ =
-        sym (g .fields-below2 .ensures ∙ ap (λ (k : ℕ). below? (codeAt b k) (codeAt b (g .before .end-place2 .result))) (g .before .before .end-place .ensures)
-        ∙ ap (λ (k : ℕ). below? (codeAt b (endPlace (a .args .at))) (codeAt b k)) (g .before .end-place2 .ensures)) in
+    sym (g .fields-below2 .ensures ∙ ap (λ (k : ℕ). below? (codeAt b k) (codeAt b (g .before .end-place2 .result))) (g .before .before .end-place .ensures)
+    ∙ ap (λ (k : ℕ). below? (codeAt b (endPlace (a .args .at))) (codeAt b k)) (g .before .end-place2 .ensures)) in
     all-three _ _ _ _ (first ∙ g .before .before .before .if1 .taken) (second ∙ c .before .before .before .if2 .taken)
     (c .fields-same .ensures ∙ ap (λ (k : ℕ). same? (codeAt b k) (codeAt b (c .before .start-place2 .result))) (c .before .before .parent-place .ensures)
     ∙ ap (λ (k : ℕ). same? (codeAt b (parentPlace (a .args .at))) (codeAt b k)) (c .before .start-place2 .ensures))
@@ -73,10 +73,10 @@ returns-2 c =
     let a = f .before .before .before in
     let b = a .args .register .now in
     let first : below? (codeAt b (a .args .low)) (codeAt b (startPlace (a .args .at))) ≡ _ =
-        sym (f .fields-below .ensures ∙ ap (λ (k : ℕ). below? (codeAt b (a .args .low)) (codeAt b k)) (f .before .start-place .ensures)) in
+    sym (f .fields-below .ensures ∙ ap (λ (k : ℕ). below? (codeAt b (a .args .low)) (codeAt b k)) (f .before .start-place .ensures)) in
     let second : below? (codeAt b (endPlace (a .args .at))) (codeAt b (endPlace (a .args .parent))) ≡ _ =
-        sym (g .fields-below2 .ensures ∙ ap (λ (k : ℕ). below? (codeAt b k) (codeAt b (g .before .end-place2 .result))) (g .before .before .end-place .ensures)
-        ∙ ap (λ (k : ℕ). below? (codeAt b (endPlace (a .args .at))) (codeAt b k)) (g .before .end-place2 .ensures)) in
+    sym (g .fields-below2 .ensures ∙ ap (λ (k : ℕ). below? (codeAt b k) (codeAt b (g .before .end-place2 .result))) (g .before .before .end-place .ensures)
+    ∙ ap (λ (k : ℕ). below? (codeAt b (endPlace (a .args .at))) (codeAt b k)) (g .before .end-place2 .ensures)) in
     second-fails _ _ _ (first ∙ g .before .before .before .if1 .taken) (second ∙ c .if2 .left)
 
 returns-3 : tie.Need-returns-3
@@ -85,7 +85,7 @@ returns-3 c =
     let a = f .before .before .before in
     let b = a .args .register .now in
     let first : below? (codeAt b (a .args .low)) (codeAt b (startPlace (a .args .at))) ≡ _ =
-        sym (f .fields-below .ensures ∙ ap (λ (k : ℕ). below? (codeAt b (a .args .low)) (codeAt b k)) (f .before .start-place .ensures)) in
+    sym (f .fields-below .ensures ∙ ap (λ (k : ℕ). below? (codeAt b (a .args .low)) (codeAt b k)) (f .before .start-place .ensures)) in
     first-fails _ _ (first ∙ c .if1 .left)
 
 pub in-place-spec : {M : Type 1} → statement M
