@@ -3,3 +3,5 @@ pub mod WriteLaws
 pub mod EntryLaws
 pub mod SoundLaws
 pub mod RowLaws
+pub mod BytesLaws
+pub mod TreeLaws

@@ -45,23 +45,23 @@ lines-next : (b : List ℕ) (n i : ℕ) → i < n → linesFrom b i (n - i) ≡ 
 lines-next b n i h = let e : n - i ≡ suc (n - suc i) = omega arith in rw e refl
 
 -- a line whose label is sound is the entry that is read; any other has no codes
-line-sound : (b : List ℕ) (i : ℕ) → soundLabel? b i ≡ true → lineAt b i ≡ entryAt b i
+pub line-sound : (b : List ℕ) (i : ℕ) → soundLabel? b i ≡ true → lineAt b i ≡ entryAt b i
 unfolding lineAt
 line-sound b i h = rw h refl
 
-line-start : (b : List ℕ) (i : ℕ) → soundLabel? b i ≡ true → lineAt b i .start ≡ codeAt b (startPlace i)
+pub line-start : (b : List ℕ) (i : ℕ) → soundLabel? b i ≡ true → lineAt b i .start ≡ codeAt b (startPlace i)
 unfolding entryAt
 line-start b i h = ap (λ (u : Entry Name). u .start) (line-sound b i h)
 
-line-end : (b : List ℕ) (i : ℕ) → soundLabel? b i ≡ true → lineAt b i .end ≡ codeAt b (endPlace i)
+pub line-end : (b : List ℕ) (i : ℕ) → soundLabel? b i ≡ true → lineAt b i .end ≡ codeAt b (endPlace i)
 unfolding entryAt
 line-end b i h = ap (λ (u : Entry Name). u .end) (line-sound b i h)
 
-line-parent : (b : List ℕ) (i : ℕ) → soundLabel? b i ≡ true → lineAt b i .parent ≡ codeAt b (parentPlace i)
+pub line-parent : (b : List ℕ) (i : ℕ) → soundLabel? b i ≡ true → lineAt b i .parent ≡ codeAt b (parentPlace i)
 unfolding entryAt
 line-parent b i h = ap (λ (u : Entry Name). u .parent) (line-sound b i h)
 
-line-blank : (b : List ℕ) (i : ℕ) → soundLabel? b i ≡ false → lineAt b i .start ≡ []
+pub line-blank : (b : List ℕ) (i : ℕ) → soundLabel? b i ≡ false → lineAt b i .start ≡ []
 unfolding lineAt
 line-blank b i h = rw h refl
 
