@@ -5,3 +5,4 @@ pub mod SoundLaws
 pub mod RowLaws
 pub mod BytesLaws
 pub mod TreeLaws
+pub mod ReadLaws

@@ -21,14 +21,19 @@ use Rattle.registers.specs.Layout.{entryPlace, labelAt, startPlace, endP
 use Rattle.registers.specs.Entries.{codeAt}
 use Rattle.registers.specs.Sound.{labelBytes, soundLabel?, CodeAt, SideAt, HasEntries, HasLabel}
 
+-- a part of a part of a list
+pub part-of : (b x : List ℕ) (p n k m : ℕ) → take n (drop p b) ≡ x → k + m ≤ n → take m (drop (p + k) b) ≡ take m (drop k x)
+part-of b x p n k m e h =
+    let w : k + (n - k) ≡ n = omega arith in
+    let f : drop k (take n (drop p b)) ≡ take (n - k) (drop k (drop p b)) =
+        ap (λ (z : ℕ). drop k (take z (drop p b))) (sym w) ∙ sym (take-drop k (n - k) (drop p b)) in
+    let g : take m (drop k (take n (drop p b))) ≡ take m (drop (p + k) b) =
+        ap (take m) f ∙ take-take m (n - k) (drop k (drop p b)) (omega arith) ∙ ap (take m) (drop-drop k p b) in
+    sym g ∙ ap (λ (z : List ℕ). take m (drop k z)) e
+
 -- a field of a label is a field of the register
 pub label-field : (b : List ℕ) (i at : ℕ) → at + fieldSize ≤ labelSize → fieldAt at (labelBytes b i) ≡ fieldAt (entryPlace i + labelAt + at) b
-label-field b i at h =
-    let k : ℕ = entryPlace i + labelAt in
-    let n : at + (labelSize - at) ≡ labelSize = omega arith in
-    let e : drop at (take labelSize (drop k b)) ≡ take (labelSize - at) (drop at (drop k b)) =
-    ap (λ (m : ℕ). drop at (take m (drop k b))) (sym n) ∙ sym (take-drop at (labelSize - at) (drop k b)) in
-    ap (take fieldSize) e ∙ take-take fieldSize (labelSize - at) (drop at (drop k b)) (omega arith) ∙ ap (take fieldSize) (drop-drop at k b)
+label-field b i at h = sym (part-of b (labelBytes b i) (entryPlace i + labelAt) labelSize at fieldSize refl h)
 
 -- a field that is that of a code holds it
 code-held : (b : List ℕ) (at : ℕ) (x : Digits) → IsCode x → fieldAt at b ≡ fieldOf x → codeHeld? (read (fieldAt at b)) ≡ true
