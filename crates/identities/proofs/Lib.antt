@@ -1,2 +1,3 @@
--- Laws of a table of identities.
+-- Laws of a table of identities, and of new identities.
 pub mod IdentityLaws
+pub mod RowLaws

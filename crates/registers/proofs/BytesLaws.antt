@@ -64,7 +64,7 @@ entry-bytes b i y h t =
     same-five _ _ _ _ _ _ _ _ _ _ a c d e f ∙ sym (five-parts b at)
 
 -- a line that starts with a code has a sound label
-coded-sound : (b : List ℕ) (i : ℕ) → IsCode (lineAt b i .start) → soundLabel? b i ≡ true
+pub coded-sound : (b : List ℕ) (i : ℕ) → IsCode (lineAt b i .start) → soundLabel? b i ≡ true
 coded-sound b i c = go (soundLabel? b i) refl
   where
     go : (t : Bool) → soundLabel? b i ≡ t → soundLabel? b i ≡ true
@@ -78,7 +78,7 @@ lines-bytes b zero i n y h k a = refl
 lines-bytes b (suc m) i n y h k a =
     let t = coded-sound b i (a .0) in
     let e : entryBytes (lineAt b i) ≡ take entrySize (drop (entryPlace i) b) =
-        ap entryBytes (line-sound b i t) ∙ entry-bytes b i y (has-place b n i h (omega arith)) t in
+    ap entryBytes (line-sound b i t) ∙ entry-bytes b i y (has-place b n i h (omega arith)) t in
     let f : entriesBytes (linesFrom b (suc i) m) ≡ take (entrySize * m) (drop (entryPlace (suc i)) b) = lines-bytes b m (suc i) n y h (omega arith) (a .1) in
     let p : entryPlace i + entrySize ≡ entryPlace (suc i) = omega arith in
     let q : entrySize * suc m ≡ entrySize + entrySize * m = omega arith in

@@ -6,3 +6,4 @@ pub mod RowLaws
 pub mod BytesLaws
 pub mod TreeLaws
 pub mod ReadLaws
+pub mod QuestionLaws

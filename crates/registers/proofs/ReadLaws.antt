@@ -38,8 +38,15 @@ number-of b x p n k e h =
     let one : p + k + 1 ≡ p + (k + 1) = omega arith in
     let two : p + k + 2 ≡ p + (k + 2) = omega arith in
     let three : p + k + 3 ≡ p + (k + 3) = omega arith in
-    rw (one, two, three, byte-of b x p n k e (omega arith), byte-of b x p n (k + 1) e (omega arith), byte-of b x p n (k + 2) e (omega arith),
-      byte-of b x p n (k + 3) e (omega arith)) refl
+    rw (
+      one,
+      two,
+      three,
+      byte-of b x p n k e (omega arith),
+      byte-of b x p n (k + 1) e (omega arith),
+      byte-of b x p n (k + 2) e (omega arith),
+      byte-of b x p n (k + 3) e (omega arith),
+    ) refl
 
 -- the fields of an entry's bytes
 module _ (u : Entry Name) where
@@ -78,12 +85,28 @@ module _ (u : Entry Name) where
       go : (u .parent ≡ []) ⊎ (IsCode (u .parent) × Below (u .parent) (u .start)) → sound? fields ≡ true
       go (inl e) =
           let p : read (fieldOf (u .parent)) ≡ empty = ap (λ z. read (fieldOf z)) e ∙ read-nothing in
-          rw (eq-eqb (length fields) labelSize fields-length, field-start, field-end, field-parent, read-field (u .start) (l .start-code),
-            read-field (u .end) (l .end-code), p, below?-true (u .start) (u .end) (l .inner)) refl
+          rw (
+            eq-eqb (length fields) labelSize fields-length,
+            field-start,
+            field-end,
+            field-parent,
+            read-field (u .start) (l .start-code),
+            read-field (u .end) (l .end-code),
+            p,
+            below?-true (u .start) (u .end) (l .inner),
+          ) refl
       go (inr (c, d)) =
-          rw (eq-eqb (length fields) labelSize fields-length, field-start, field-end, field-parent, read-field (u .start) (l .start-code),
-            read-field (u .end) (l .end-code), read-field (u .parent) c, below?-true (u .start) (u .end) (l .inner),
-            below?-true (u .parent) (u .start) d) refl
+          rw (
+            eq-eqb (length fields) labelSize fields-length,
+            field-start,
+            field-end,
+            field-parent,
+            read-field (u .start) (l .start-code),
+            read-field (u .end) (l .end-code),
+            read-field (u .parent) c,
+            below?-true (u .start) (u .end) (l .inner),
+            below?-true (u .parent) (u .start) d,
+          ) refl
 
 -- a side read back from its field
 side-read : (x : Digits) → (x ≡ []) ⊎ IsCode x → sideOf (read (fieldOf x)) ≡ x
@@ -136,9 +159,9 @@ lines-read b (u ∷ us) i e a =
     let q : entrySize * suc (length us) ≡ entrySize + m = omega arith in
     let w : take (entrySize + m) d ≡ entryBytes u ++ entriesBytes us = ap (λ (z : ℕ). take z d) (sym q) ∙ e in
     let f : take entrySize d ≡ entryBytes u =
-        sym (take-take entrySize (entrySize + m) d (omega arith)) ∙ ap (take entrySize) w ∙ take-at (entryBytes u) (entriesBytes us) entrySize (entry-length u) in
+    sym (take-take entrySize (entrySize + m) d (omega arith)) ∙ ap (take entrySize) w ∙ take-at (entryBytes u) (entriesBytes us) entrySize (entry-length u) in
     let p : entryPlace i + entrySize ≡ entryPlace (suc i) = omega arith in
     let g : take m (drop (entryPlace (suc i)) b) ≡ entriesBytes us =
-        ap (λ (k : ℕ). take m (drop k b)) (sym p) ∙ ap (take m) (sym (drop-drop entrySize (entryPlace i) b)) ∙ take-drop entrySize m d ∙ ap (drop entrySize) w
-        ∙ drop-at (entryBytes u) (entriesBytes us) entrySize (entry-length u) in
+    ap (λ (k : ℕ). take m (drop k b)) (sym p) ∙ ap (take m) (sym (drop-drop entrySize (entryPlace i) b)) ∙ take-drop entrySize m d ∙ ap (drop entrySize) w
+    ∙ drop-at (entryBytes u) (entriesBytes us) entrySize (entry-length u) in
     rw (entry-read b i u f (a .0), lines-read b us (suc i) g (a .1)) refl

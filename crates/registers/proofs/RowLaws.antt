@@ -41,7 +41,7 @@ lines-drop b (suc j) i (suc m) =
     let f : suc m - suc j ≡ m - j = omega arith in
     rw (e, f) (lines-drop b j (suc i) m)
 
-lines-next : (b : List ℕ) (n i : ℕ) → i < n → linesFrom b i (n - i) ≡ lineAt b i ∷ linesFrom b (suc i) (n - suc i)
+pub lines-next : (b : List ℕ) (n i : ℕ) → i < n → linesFrom b i (n - i) ≡ lineAt b i ∷ linesFrom b (suc i) (n - suc i)
 lines-next b n i h = let e : n - i ≡ suc (n - suc i) = omega arith in rw e refl
 
 -- a line whose label is sound is the entry that is read; any other has no codes
@@ -268,8 +268,15 @@ module _ (b : List ℕ) (n : ℕ) (some : 0 < n) where
     root-is : entry? 64 [] [] [] (lineAt b 0) ≡ same? (codeAt b (parentPlace 0)) []
     root-is =
         let s = sound-at b 0 h t in
-        rw (line-start b 0 t, line-end b 0 t, line-parent b 0 t, true-code? _ (s .start-code), true-code? _ (s .end-code),
-          below?-true _ _ (s .inner), nothing-below _ (s .start-code)) refl
+        rw (
+          line-start b 0 t,
+          line-end b 0 t,
+          line-parent b 0 t,
+          true-code? _ (s .start-code),
+          true-code? _ (s .end-code),
+          below?-true _ _ (s .inner),
+          nothing-below _ (s .start-code),
+        ) refl
 
     pub tree-child : same? (codeAt b (parentPlace 0)) [] ≡ false → false ≡ tree? b n
     tree-child o = sym (tree-is ∙ ap (λ (z : Bool). z && whole? inside) (root-is ∙ o))

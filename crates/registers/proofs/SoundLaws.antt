@@ -26,9 +26,9 @@ pub part-of : (b x : List ℕ) (p n k m : ℕ) → take n (drop p b) ≡ x → k
 part-of b x p n k m e h =
     let w : k + (n - k) ≡ n = omega arith in
     let f : drop k (take n (drop p b)) ≡ take (n - k) (drop k (drop p b)) =
-        ap (λ (z : ℕ). drop k (take z (drop p b))) (sym w) ∙ sym (take-drop k (n - k) (drop p b)) in
+    ap (λ (z : ℕ). drop k (take z (drop p b))) (sym w) ∙ sym (take-drop k (n - k) (drop p b)) in
     let g : take m (drop k (take n (drop p b))) ≡ take m (drop (p + k) b) =
-        ap (take m) f ∙ take-take m (n - k) (drop k (drop p b)) (omega arith) ∙ ap (take m) (drop-drop k p b) in
+    ap (take m) f ∙ take-take m (n - k) (drop k (drop p b)) (omega arith) ∙ ap (take m) (drop-drop k p b) in
     sym g ∙ ap (λ (z : List ℕ). take m (drop k z)) e
 
 -- a field of a label is a field of the register
@@ -90,6 +90,9 @@ sides-same b f g x y h k d e =
 -- three tests in a row
 pub all-three : (a b c r : Bool) → a ≡ true → b ≡ true → r ≡ c → r ≡ (a && (b && c))
 all-three a b c r d e f = rw (d, e) f
+
+pub both-are : (a b r : Bool) → a ≡ true → r ≡ b → r ≡ (a && b)
+both-are a b r d e = rw d e
 
 pub second-fails : (a b c : Bool) → a ≡ true → b ≡ false → false ≡ (a && (b && c))
 second-fails a b c d e = rw (d, e) refl

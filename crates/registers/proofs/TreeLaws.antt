@@ -51,8 +51,15 @@ told k p l r u e =
 
 tell : (k : ℕ) (p l r : Digits) (u : Entry Name) → Placed k p l r u → entry? k p l r u ≡ true
 tell k p l r u h =
-    rw (lt-ltb 0 k (h .deep), true-code? (u .start) (h .start-code), true-code? (u .end) (h .end-code),
-      below?-true (u .start) (u .end) (h .inner), below?-true l (u .start) (h .above), →under? (u .end) r (h .under), h .parented)
+    rw (
+      lt-ltb 0 k (h .deep),
+      true-code? (u .start) (h .start-code),
+      true-code? (u .end) (h .end-code),
+      below?-true (u .start) (u .end) (h .inner),
+      below?-true l (u .start) (h .above),
+      →under? (u .end) r (h .under),
+      h .parented,
+    )
     (same?-refl p)
 
 abbrev Fact : ℕ → Digits → Digits → Digits → Forest (Entry Name) → Type 0
@@ -103,10 +110,12 @@ labels-of k p l r (node u c s) q h =
       end-code = i .end-code;
       inner = i .inner;
       parent = subst (λ z. (z ≡ []) ⊎ (IsCode z × Below z (u .start))) (sym (i .parented)) (parent-below p l (u .start) q (i .above));
-    } in
-    (v, all-append _ (preorder c) (preorder s)
-      (labels-of (pred k) (u .start) (u .start) (u .end) c (inr (i .start-code, inl refl)) (w .children))
-      (labels-of k p (u .end) r s (later-side p l (u .end) q m) (w .next)))
+    } in (
+      v,
+      all-append _ (preorder c) (preorder s)
+          (labels-of (pred k) (u .start) (u .start) (u .end) c (inr (i .start-code, inl refl)) (w .children))
+          (labels-of k p (u .end) r s (later-side p l (u .end) q m) (w .next)),
+    )
 
 -- a tree for the lines
 pub record Lined (b : List ℕ) (n : ℕ) : Type 0 where

@@ -3,3 +3,4 @@ pub mod Layout
 pub mod Entries
 pub mod Holds
 pub mod Sound
+pub mod Questions

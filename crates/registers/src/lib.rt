@@ -1,17 +1,24 @@
-// A register's layout, and an entry's parts written in their places.
+// A register: its layout, its soundness, the questions on it, and an entry's parts written in their places.
 ghost use mathlib.Core.Path.{_≡_};
+ghost use mathlib.Core.Bool.{true, cond};
 ghost use mathlib.Core.List.{_++_, []};
-ghost use Prim.Native.Nat.{_+_, _≤_};
+ghost use Prim.Native.Nat.{_+_, _≤_, _<_};
 ghost use lib.ListN.{length};
 ghost use Rattle.numbers.specs.Bytes.{put, le4};
 ghost use Rattle.codes.specs.Code.{IsCode};
 ghost use Rattle.codes.specs.Field.{fieldOf};
 ghost use Rattle.codes.specs.Spread.{digitsOf};
 ghost use Rattle.labels.specs.Label.{fieldAt};
+ghost use Rattle.identities.specs.Rows.{allNew?};
+ghost use Rattle.registers.specs.Holds.{identities};
+ghost use Rattle.registers.specs.Sound.{lineAt, linesFrom, HasEntries};
+ghost use Rattle.registers.specs.Questions.{countOf, linesOf, sized?, registerSound?, foundIn, depthIn, placeAnswer, depthAnswer, distanceAnswer};
 ghost use Rattle.registers.specs.Layout.{mostEntries, countAt, headerSize, entryPlace, startPlace, endPlace, parentPlace, HasPlace};
 
 mod walk;
 
+use answers::Answer;
+use answers::Refusal;
 use codes::Code;
 use labels::END;
 use labels::LABEL;
@@ -38,6 +45,156 @@ pub const TAG: usize = IDENTITY + 4;
 pub const ENTRY_LABEL: usize = TAG + 4;
 
 pub const ENTRY: usize = ENTRY_LABEL + LABEL;
+
+// Where an identity stands, from 0, or that it does not.
+pub enum Found {
+    At(usize),
+    Nothing,
+}
+
+// The place of an identity, from 0. Refuses 5, 6.
+pub fn place(register: &[u8], identity: u32) -> Answer
+    ensures answer { λ r. ⌜ r ≡ placeAnswer (now (register .entry)) identity ⌝ }
+{
+    if !sound(register) {
+        return Answer::Refused(Refusal::Register);
+    }
+    let Found::At(place) = find(register, identity) else {
+        return Answer::Refused(Refusal::Target);
+    };
+    Answer::Accepted(place)
+}
+
+// The depth of an identity. Refuses 5, 6.
+pub fn depth(register: &[u8], identity: u32) -> i32
+    ensures answer { λ r. ⌜ r ≡ depthAnswer (now (register .entry)) identity ⌝ }
+{
+    if !sound(register) {
+        return Refusal::Register.signed();
+    }
+    let Found::At(place) = find(register, identity) else {
+        return Refusal::Target.signed();
+    };
+    depth_at(register, place) as i32
+}
+
+// The place of y minus the place of x. Refuses 5, 6.
+pub fn distance(register: &[u8], x: u32, y: u32) -> i32
+    ensures answer { λ r. ⌜ r ≡ distanceAnswer (now (register .entry)) x y ⌝ }
+{
+    if !sound(register) {
+        return Refusal::Register.signed();
+    }
+    let Found::At(from) = find(register, x) else {
+        return Refusal::Target.signed();
+    };
+    let Found::At(to) = find(register, y) else {
+        return Refusal::Target.signed();
+    };
+    to as i32 - from as i32
+}
+
+// Whether a buffer holds a sound register.
+pub fn sound(register: &[u8]) -> bool
+    ensures sound { λ r. ⌜ r ≡ registerSound? (now (register .entry)) ⌝ }
+{
+    if !sized(register) {
+        return false;
+    }
+    let n = count(register);
+    if !new_identities(register, n) {
+        return false;
+    }
+    walk::tree(register, n)
+}
+
+// The count is 1 to 4,096, the second number zero, and all counted entries stand in the buffer.
+fn sized(register: &[u8]) -> bool
+    ensures sized { λ r. ⌜ r ≡ sized? (now (register .entry)) ⌝ }
+{
+    if register.len() < HEADER {
+        return false;
+    }
+    let n = count(register);
+    if n < 1 {
+        return false;
+    }
+    if MOST < n {
+        return false;
+    }
+    if register.len() < entry_place(n) {
+        return false;
+    }
+    numbers::read_u32(register, ZERO) == 0
+}
+
+// The number of entries that a register says it has.
+pub fn count(register: &[u8]) -> usize
+    requires header { ⌜ headerSize ≤ length (now register) ⌝ }
+    ensures count { λ r. ⌜ r ≡ countOf (now (register .entry)) ⌝ }
+{
+    numbers::read_u32(register, COUNT) as usize
+}
+
+// The identities of n entries are not 0 and all different.
+fn new_identities(register: &[u8], n: usize) -> bool
+    requires entries { ⌜ HasEntries (now register) n ⌝ }
+    ensures new { λ r. ⌜ r ≡ allNew? (identities (linesFrom (now (register .entry)) 0 n)) ⌝ }
+{
+    let mut all = [0u32; MOST];
+    let mut i = 0;
+    while i < n {
+        all[i] = identity(register, i);
+        i += 1;
+    }
+    identities::all_new(&all, n)
+}
+
+fn identity(register: &[u8], i: usize) -> u32
+    requires place { ⌜ HasPlace (now register) i ⌝ }
+    ensures identity { λ r. ⌜ r ≡ lineAt (now (register .entry)) i .name .identity ⌝ }
+{
+    numbers::read_u32(register, entry_place(i) + IDENTITY)
+}
+
+// Looks for an identity among the counted entries.
+fn find(register: &[u8], x: u32) -> Found
+    requires sized { ⌜ sized? (now register) ≡ true ⌝ }
+    ensures found { λ r. ⌜ r ≡ foundIn (now (register .entry)) x ⌝ }
+{
+    let n = count(register);
+    let mut i = 0;
+    while i < n {
+        if identity(register, i) == x {
+            return Found::At(i);
+        }
+        i += 1;
+    }
+    Found::Nothing
+}
+
+// The number of entries above the one at a place.
+fn depth_at(register: &[u8], place: usize) -> usize
+    requires sound { ⌜ registerSound? (now register) ≡ true ⌝ }
+    requires place { ⌜ place < countOf (now register) ⌝ }
+    ensures depth { λ r. ⌜ r ≡ depthIn (lineAt (now (register .entry)) place) (linesOf (now (register .entry))) ⌝ }
+{
+    let n = count(register);
+    let mut depth = 0;
+    let mut i = 0;
+    while i < n {
+        depth += one(walk::above(register, i, place));
+        i += 1;
+    }
+    depth
+}
+
+fn one(yes: bool) -> usize
+    ensures one { λ r. ⌜ r ≡ cond yes 1 0 ⌝ }
+    ensures small { λ r. ⌜ r ≤ 1 ⌝ }
+{
+    if yes { 1 } else { 0 }
+}
 
 // Where entry i begins.
 fn entry_place(i: usize) -> usize

@@ -8,10 +8,11 @@ ghost use Rattle.digits.specs.Order.{below?};
 ghost use Rattle.codes.specs.Reading.{same?};
 ghost use Rattle.registers.specs.Layout.{mostEntries, startPlace, endPlace, parentPlace, HasPlace};
 ghost use Rattle.registers.specs.Entries.{codeAt};
-ghost use Rattle.registers.specs.Sound.{labelBytes, soundLabel?, tree?, childrenFrom, entryFrom, CodeAt, SideAt, HasEntries, HasLabel};
+ghost use Rattle.registers.specs.Sound.{labelBytes, soundLabel?, lineAt, tree?, childrenFrom, entryFrom, CodeAt, SideAt, HasEntries, HasLabel};
 use crate::DEEPEST;
 use crate::ENTRY_LABEL;
 use crate::entry_place;
+ghost use Rattle.registers.specs.Questions.{aboveEntry?};
 use codes::Kind;
 use labels::END;
 use labels::LABEL;
@@ -124,6 +125,18 @@ fn in_place(register: &[u8], at: usize, low: usize, parent: usize) -> bool
         if fields_below(register, end_place(at), end_place(parent)) {
             return fields_same(register, parent_place(at), start_place(parent));
         }
+    }
+    false
+}
+
+// Entry i is above entry j.
+pub(crate) fn above(register: &[u8], i: usize, j: usize) -> bool
+    requires places { ⌜ HasPlace (now register) i × HasPlace (now register) j ⌝ }
+    requires labels { ⌜ (soundLabel? (now register) i ≡ true) × (soundLabel? (now register) j ≡ true) ⌝ }
+    ensures above { λ r. ⌜ r ≡ aboveEntry? (lineAt (now (register .entry)) i) (lineAt (now (register .entry)) j) ⌝ }
+{
+    if fields_below(register, start_place(i), start_place(j)) {
+        return fields_below(register, end_place(j), end_place(i));
     }
     false
 }
