@@ -1,8 +1,9 @@
-// The calls of `codes`, `labels` and `tables` for a host program in C, as include/plant.h declares them.
+// The calls of `codes`, `labels`, `registers` and `tables` for a host program in C, as include/plant.h declares them.
 // Each turns an answer into a number.
 ghost use mathlib.Core.Path.{_≡_};
 ghost use Rattle.answers.specs.Signed.{signedOf, signedRowOf};
 ghost use Rattle.codes.specs.Calls.{packOutcome, unpackOutcome, betweenOutcome};
+ghost use Rattle.registers.specs.Questions.{placeAnswer, depthAnswer, distanceAnswer};
 ghost use Rattle.tables.specs.Labelling.{labelOutcome};
 ghost use Rattle.labels.specs.Questions.{orderAnswer, aboveAnswer, parentAnswer, siblingAnswer};
 use codes::Code;
@@ -65,4 +66,25 @@ pub extern "C" fn plant_label(table: &[u32], register: &mut [u8]) -> i64
     ensures bytes { λ _. ⌜ now (register .exit) ≡ labelOutcome (now (table .entry)) (now (register .entry)) .bytes ⌝ }
 {
     tables::label(table, register).signed_row()
+}
+
+#[no_mangle]
+pub extern "C" fn plant_place(register: &[u8], identity: u32) -> i32
+    ensures answer { λ r. ⌜ r ≡ signedOf (placeAnswer (now (register .entry)) identity) ⌝ }
+{
+    registers::place(register, identity).signed()
+}
+
+#[no_mangle]
+pub extern "C" fn plant_depth(register: &[u8], identity: u32) -> i32
+    ensures answer { λ r. ⌜ r ≡ depthAnswer (now (register .entry)) identity ⌝ }
+{
+    registers::depth(register, identity)
+}
+
+#[no_mangle]
+pub extern "C" fn plant_distance(register: &[u8], x: u32, y: u32) -> i32
+    ensures answer { λ r. ⌜ r ≡ distanceAnswer (now (register .entry)) x y ⌝ }
+{
+    registers::distance(register, x, y)
 }

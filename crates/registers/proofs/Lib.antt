@@ -7,3 +7,4 @@ pub mod BytesLaws
 pub mod TreeLaws
 pub mod ReadLaws
 pub mod QuestionLaws
+pub mod HoldsLaws

@@ -22,7 +22,7 @@ use Rattle.codes.specs.Code.{IsCode}
 use Rattle.answers.specs.declared.Answer.the-variants.{Refused}
 use Rattle.answers.specs.declared.Refusal.the-variants.{Register, Target}
 use Rattle.answers.specs.Number.{numberOf}
-use Rattle.answers.specs.Signed.{refusedAs}
+use Rattle.answers.specs.Signed.{refusedAs, Signable}
 use Rattle.identities.specs.Rows.{allNew?}
 use Rattle.trees.specs.Labelled.{Name, Entry}
 use Rattle.registers.specs.declared.Found.{Found}
@@ -279,3 +279,13 @@ module _ (b : List ℕ) (x : ℕ) where
   pub distance-none : (y : ℕ) → registerSound? b ≡ true → Nothing ≡ foundIn b x → refusedAs (numberOf Target) ≡ distanceAnswer b x y
   unfolding distanceAnswer
   distance-none y e p = rw (e, ← p) refl
+
+-- a place fits a signed number of 32 bits
+pub place-signable : (b : List ℕ) (x : ℕ) → Signable (placeAnswer b x)
+unfolding placeAnswer
+place-signable b x = go (registerSound? b) refl (foundIn b x) refl
+  where
+    go : (t : Bool) → registerSound? b ≡ t → (f : Found) → foundIn b x ≡ f → Signable (cond t (placeAs f) (Refused Register))
+    go false e f g = tt
+    go true e (At i) g = omega (arith, found-inside b x i g, sized→ b (parts-of b e .sized) .most)
+    go true e Nothing g = tt

@@ -33,7 +33,7 @@ use Rattle.registers.proofs.TreeLaws.{Label}
 byte-of : (b x : List ℕ) (p n j : ℕ) → take n (drop p b) ≡ x → j < n → getD b (p + j) 0 ≡ getD x j 0
 byte-of b x p n j e h = sym (getD-drop p b j 0) ∙ sym (getD-take n (drop p b) j 0 h) ∙ ap (λ (z : List ℕ). getD z j 0) e
 
-number-of : (b x : List ℕ) (p n k : ℕ) → take n (drop p b) ≡ x → k + 4 ≤ n → numberAt b (p + k) ≡ numberAt x k
+pub number-of : (b x : List ℕ) (p n k : ℕ) → take n (drop p b) ≡ x → k + 4 ≤ n → numberAt b (p + k) ≡ numberAt x k
 number-of b x p n k e h =
     let one : p + k + 1 ≡ p + (k + 1) = omega arith in
     let two : p + k + 2 ≡ p + (k + 2) = omega arith in

@@ -1,24 +1,23 @@
 -- What the rules accept is what 01 asks of a table, no less and no more, and it has one tree. Assumes nothing.
-use mathlib.Core.Path.{_≡_, refl, sym, ap, _∙_}
-use mathlib.Core.Logic.{_≢_}
-use mathlib.Core.Bool.{Bool, true, false, cond, not, _&&_, and-eq-true-iff, false≢true}
+use mathlib.Core.Path.{_≡_, refl, ap, _∙_}
+use mathlib.Core.Bool.{Bool, true, false, cond, _&&_, and-eq-true-iff}
 use mathlib.Core.List.{List, [], _∷_}
 use Prim.Native.Nat.{ℕ, suc, _+_, _/_, _%_, _≤_}
 use native.Mathlib.Omega.{arith}
 use lib.Dec.{eqb, leb}
 use lib.ListN.{length}
-use borrow.Author.Tests.{eqb-true, eqb-false, leb-true, eq-eqb, ne-eqb, le-leb}
+use borrow.Author.Tests.{eqb-true, leb-true, eq-eqb, le-leb}
 use Rattle.digits.specs.Lists.{All, Distinct}
-use Rattle.digits.proofs.ListLaws.{all-map, all-both}
 use Rattle.answers.specs.declared.Refusal.{Refusal}
-use Rattle.identities.specs.Identities.{among?}
+use Rattle.identities.specs.Rows.{fresh?}
+use Rattle.identities.proofs.RowLaws.{New, new, fresh-right, others, fewer, behind, some, real}
 use Rattle.trees.specs.Table.{Later, Follow, rows, forest}
 use Rattle.trees.proofs.TableLaws.{ruled-rows}
 use Rattle.registers.specs.Layout.{deepest}
 use Rattle.tables.specs.declared.Checked.{Checked}
 use Rattle.tables.specs.declared.Checked.the-variants.{Rows, Bad}
 use Rattle.tables.specs.Table.{mostRows, rowSize, Row, rowsOf}
-use Rattle.tables.specs.Rules.{size?, depth?, fresh?, rowsFrom, rowsChecked, checkedOf}
+use Rattle.tables.specs.Rules.{size?, depth?, rowsFrom, rowsChecked, checkedOf}
 use Rattle.tables.specs.Accepted.{named, identities, Accepted}
 use Rattle.tables.proofs.RowLaws.{rows-length}
 use Rattle.tables.proofs.RuleLaws.{size-right}
@@ -37,34 +36,6 @@ later previous depth h =
     let a = and-eq-true-iff (leb 1 depth) (leb depth (previous + 1) && leb depth deepest) .0 h in
     let b = and-eq-true-iff (leb depth (previous + 1)) (leb depth deepest) .0 (a .1) in
     record { inner = leb-true 1 depth (a .0); step = leb-true depth (previous + 1) (b .0); bounded = leb-true depth deepest (b .1) }
-
-not-true : (t : Bool) → not t ≡ true → t ≡ false
-not-true true h = absurd (false≢true h)
-not-true false h = refl
-
--- an identity that is not among some others
-abbrev New : List ℕ → ℕ → Type 0
-New used x = (x ≢ 0) × (among? x used ≡ false)
-
-new : (x : ℕ) (used : List ℕ) → fresh? x used ≡ true → New used x
-new x used h =
-    let a = and-eq-true-iff (not (eqb x 0)) (not (among? x used)) .0 h in
-    (eqb-false x 0 (not-true (eqb x 0) (a .0)), not-true (among? x used) (a .1))
-
--- among more, so among fewer, and different from the one that is more
-unless-first : (x y : ℕ) (used : List ℕ) → among? x (y ∷ used) ≡ false → (y ≢ x) × (among? x used ≡ false)
-unless-first x y used h = go (eqb x y) refl h
-  where
-    go : (t : Bool) → eqb x y ≡ t → cond t true (among? x used) ≡ false → (y ≢ x) × (among? x used ≡ false)
-    go true e f = absurd (false≢true (sym f))
-    go false e f = (λ i. eqb-false x y e (sym i), f)
-
--- what is new behind an identity, too, differs from it and is new without it
-others : (y : ℕ) (used xs : List ℕ) → All (New (y ∷ used)) xs → All (λ x. y ≢ x) xs
-others y used xs h = all-map (New (y ∷ used)) (λ x. y ≢ x) (λ x p. unless-first x y used (p .1) .0) xs h
-
-fewer : (y : ℕ) (used xs : List ℕ) → All (New (y ∷ used)) xs → All (New used) xs
-fewer y used xs h = all-map (New (y ∷ used)) (New used) (λ x p. (p .0, unless-first x y used (p .1) .1)) xs h
 
 -- rows behind a row of some depth, with some identities used above
 record Right (previous : ℕ) (used : List ℕ) (rs : List Row) : Type 0 where
@@ -120,7 +91,7 @@ accepted t n e =
           some = s;
           most = m;
           ruled = (z, rw z (h .follow));
-          real = (k .0, all-map (New (r .identity ∷ [])) (λ x. x ≢ 0) (λ x p. p .0) (identities rs) (h .news));
+          real = (k .0, real (r .identity ∷ []) (identities rs) (h .news));
           distinct = (others (r .identity) [] (identities rs) (h .news), h .distinct);
         }
 
@@ -151,15 +122,6 @@ depth-right : (previous depth : ℕ) → Later deepest previous depth → depth?
 depth-right previous depth l =
     rw (le-leb 1 depth (l .inner), le-leb depth (previous + 1) (l .step), le-leb depth deepest (l .bounded)) refl
 
-fresh-right : (x : ℕ) (used : List ℕ) → New used x → fresh? x used ≡ true
-fresh-right x used k = rw (ne-eqb x 0 (k .0), k .1) refl
-
-more : (y x : ℕ) (used : List ℕ) → New used x → y ≢ x → New (y ∷ used) x
-more y x used k n = (k .0, rw (ne-eqb x y (λ e. n (sym e))) (k .1))
-
-behind : (y : ℕ) (used xs : List ℕ) → All (New used) xs → All (λ x. y ≢ x) xs → All (New (y ∷ used)) xs
-behind y used xs h k = all-both (New used) (λ x. y ≢ x) (New (y ∷ used)) (λ x p q. more y x used p q) xs h k
-
 right-rows : (row previous : ℕ) (used : List ℕ) (rs : List Row) → Right previous used rs
     → rowsFrom row previous used rs ≡ Rows (row + length rs)
 unfolding rowsFrom
@@ -187,10 +149,7 @@ none-refused t z a =
         let h : Right 0 (r .identity ∷ []) rs =
         record {
           follow = rw (a .ruled .0) at (a .ruled .1);
-          news =
-              behind (r .identity) [] (identities rs)
-              (all-map (λ x. x ≢ 0) (New []) (λ x p. (p, refl)) (identities rs) (a .real .1))
-              (a .distinct .0);
+          news = behind (r .identity) [] (identities rs) (some (identities rs) (a .real .1)) (a .distinct .0);
           distinct = a .distinct .1;
         } in
         rw (eq-eqb (r .depth) 0 (a .ruled .0), fresh-right (r .identity) [] (a .real .0, refl))

@@ -1,6 +1,6 @@
 -- Laws of the rules, row by row. Assumes nothing.
 use mathlib.Core.Path.{_≡_, refl, sym, ap, _∙_}
-use mathlib.Core.Bool.{Bool, true, false, cond, not, and-true, and-false}
+use mathlib.Core.Bool.{Bool, true, false, cond, and-true, and-false}
 use mathlib.Core.List.{List}
 use Prim.Native.Nat.{ℕ, zero, suc, _+_, _*_, _-_, _/_, _%_, _≤_, _<_}
 use native.Mathlib.Numerals.{add-one}
@@ -13,9 +13,8 @@ use Rattle.registers.specs.Layout.{deepest}
 use Rattle.tables.specs.declared.Checked.{Checked}
 use Rattle.tables.specs.declared.Checked.the-variants.{Rows, Bad}
 use Rattle.tables.specs.Table.{mostRows, rowSize, rowsOf}
-use Rattle.identities.specs.Identities.{among?}
-use Rattle.tables.specs.Rules.{depth?, fresh?, identityAt, rowsFrom, rowsChecked, checkedOf}
-use Rattle.tables.specs.Rows.{identityOf, depthOf, depthAt?, freshAt?, above, checkedFrom}
+use Rattle.tables.specs.Rules.{depth?, identityAt, rowsFrom, rowsChecked, checkedOf}
+use Rattle.tables.specs.Rows.{depthOf, depthAt?, freshAt?, above, checkedFrom}
 use Rattle.tables.proofs.RowLaws.{rows-next, rows-end}
 
 -- the size rule: a part of a row, no row, too many, or right
@@ -60,30 +59,6 @@ depth-later t zero p d q e h = absurd (h refl)
 depth-later t (suc i) p d q e h =
     let k : suc i - 1 ≡ i = omega arith in
     rw (q, e, k)
-
--- the identity rule: 0, used, or new
-pub fresh-zero : (x : ℕ) (used : List ℕ) → x ≡ 0 → fresh? x used ≡ false
-fresh-zero x used e = simp (eq-eqb x 0 e)
-
-pub fresh-used : (x : ℕ) (used : List ℕ) → among? x used ≡ true → fresh? x used ≡ false
-fresh-used x used h = simp (h, and-false)
-
-pub fresh-some : (x : ℕ) (used : List ℕ) → (x ≡ 0 → ⊥) → fresh? x used ≡ not (among? x used)
-fresh-some x used some = simp (ne-eqb x 0 some)
-
--- the identity of the row above is the first looked at
-pub above-found : (t : List ℕ) (x k : ℕ) → 0 < k → x ≡ identityOf t (k - 1) → among? x (above t k) ≡ true
-above-found t x zero h e = absurd (omega arith)
-above-found t x (suc k) h e =
-    let p : suc k - 1 ≡ k = omega arith in
-    simp (eq-eqb x (identityOf t k) (e ∙ ap (identityOf t) p))
-
-pub above-passed : (t : List ℕ) (x k : ℕ) → 0 < k → (x ≡ identityOf t (k - 1) → ⊥)
-    → among? x (above t k) ≡ among? x (above t (k - 1))
-above-passed t x zero h e = absurd (omega arith)
-above-passed t x (suc k) h e =
-    let p : suc k - 1 ≡ k = omega arith in
-    rw p (simp (ne-eqb x (identityOf t k) (λ q. e (q ∙ ap (identityOf t) (sym p)))))
 
 -- a choice whose first side matters only where it is taken
 then-same : (b : Bool) (x y z : Checked) → (b ≡ true → x ≡ y) → cond b x z ≡ cond b y z

@@ -13,11 +13,12 @@ use Rattle.answers.specs.Signed.{SignableRow}
 use Rattle.numbers.specs.Bytes.{put}
 use Rattle.trees.specs.Forest.{preorder}
 use Rattle.registers.specs.Entries.{registerBytes}
+use Rattle.identities.specs.Rows.{fresh?}
 use Rattle.tables.specs.declared.Checked.{Checked}
 use Rattle.tables.specs.declared.Checked.the-variants.{Rows, Bad}
 use Rattle.registers.specs.Layout.{entryPlace}
 use Rattle.tables.specs.Table.{mostRows, Row, rowsOf}
-use Rattle.tables.specs.Rules.{size?, depth?, fresh?, rowsFrom, rowsChecked, checkedOf}
+use Rattle.tables.specs.Rules.{size?, depth?, rowsFrom, rowsChecked, checkedOf}
 use Rattle.tables.specs.Labelling.{labelledTree, labelAs, labelOutcome}
 use Rattle.tables.proofs.AcceptedLaws.{size-bounds}
 use Rattle.tables.proofs.LabelLaws.{count-most}

@@ -1,12 +1,13 @@
 -- One row of a table by its number: what the functions that go through the rows say. Assumes nothing.
 use mathlib.Core.Bool.{Bool}
-use mathlib.Core.List.{List, [], _∷_}
+use mathlib.Core.List.{List}
 use Prim.Native.Nat.{ℕ, zero, suc, _+_, _*_, _≤_, _<_}
 use lib.Dec.{eqb}
 use lib.ListN.{length, drop, getD}
+use Rattle.identities.specs.Rows.{fresh?, earlier}
 use Rattle.tables.specs.declared.Checked.{Checked}
 use Rattle.tables.specs.Table.{mostRows, rowSize, Row, rowsOf}
-use Rattle.tables.specs.Rules.{depth?, fresh?, rowsFrom, rowsChecked}
+use Rattle.tables.specs.Rules.{depth?, rowsFrom, rowsChecked}
 
 -- row i stands in the table
 abbrev pub HasRow : List ℕ → ℕ → Type 0
@@ -31,8 +32,7 @@ depthAt? table (suc i) = depth? (depthOf table i) (depthOf table (suc i))
 
 -- the identities above row i, the latest first
 abbrev pub above : List ℕ → ℕ → List ℕ
-above table zero = []
-above table (suc i) = identityOf table i ∷ above table i
+above table i = earlier rowSize table i
 
 -- row i keeps the identity rule
 abbrev pub freshAt? : List ℕ → ℕ → Bool

@@ -1,12 +1,12 @@
 -- The table's rules, in the paper's order: 1, then rows from the top, 2 before 3 in a row.
 -- Assumes nothing.
-use mathlib.Core.Bool.{Bool, cond, not, _&&_}
+use mathlib.Core.Bool.{Bool, cond, _&&_}
 use mathlib.Core.List.{List, [], _∷_}
 use Prim.Native.Nat.{ℕ, suc, _+_, _/_, _%_}
 use lib.Dec.{eqb, leb}
 use lib.ListN.{length}
 use Rattle.answers.specs.declared.Refusal.the-variants.{TableSize, RowDepth, RowIdentity}
-use Rattle.identities.specs.Identities.{among?}
+use Rattle.identities.specs.Rows.{fresh?}
 use Rattle.registers.specs.Layout.{deepest}
 use Rattle.tables.specs.declared.Checked.{Checked}
 use Rattle.tables.specs.declared.Checked.the-variants.{Rows, Bad}
@@ -20,11 +20,7 @@ size? table = eqb (length table % rowSize) 0 && (leb 1 (length table / rowSize) 
 abbrev pub depth? : ℕ → ℕ → Bool
 depth? previous depth = leb 1 depth && (leb depth (previous + 1) && leb depth deepest)
 
--- 01, refusal 3: identity 0 or already used
-abbrev pub fresh? : ℕ → List ℕ → Bool
-fresh? identity used = not (eqb identity 0) && not (among? identity used)
-
--- a row whose depth is right, by its identity
+-- 01, refusal 3: a row whose depth is right, by its identity
 abbrev pub identityAt : ℕ → Bool → Checked → Checked
 identityAt row fresh later = cond fresh later (Bad (RowIdentity row))
 

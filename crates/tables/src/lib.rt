@@ -1,20 +1,17 @@
 // Tables: their rules, and the first labelling of their rows.
 ghost use mathlib.Core.Path.{_≡_};
-ghost use mathlib.Core.Bool.{true};
-ghost use Prim.Native.Nat.{suc, _*_, _≤_};
+ghost use Prim.Native.Nat.{_*_, _≤_};
 ghost use lib.ListN.{length};
 ghost use Rattle.tables.specs.Table.{mostRows, rowSize, rowsOf};
 ghost use Rattle.tables.specs.Rules.{depth?, rowsChecked, checkedOf};
 ghost use Rattle.tables.specs.Labelling.{labelOutcome};
-ghost use Rattle.tables.specs.Rows.{HasRow, identityOf, tagOf, depthOf, depthAt?, freshAt?, above};
-ghost use Rattle.identities.specs.Identities.{among?, Holds};
+ghost use Rattle.tables.specs.Rows.{HasRow, identityOf, tagOf, depthOf, depthAt?};
 
 mod walk;
 
 use answers::Answer;
 use answers::Refusal;
 use codes::Code;
-use identities::Entered;
 use identities::PLACES;
 use registers::DEEPEST;
 use registers::ENTRY;
@@ -94,7 +91,7 @@ fn check_rows(table: &[u32], n: usize) -> Checked
         if !row_depth(table, i) {
             return Checked::Bad(Refusal::RowDepth(i));
         }
-        if !row_identity(table, i, &mut places) {
+        if !identities::new_at(table, ROW, i, &mut places) {
             return Checked::Bad(Refusal::RowIdentity(i));
         }
         i += 1;
@@ -125,39 +122,6 @@ fn follows(previous: u32, depth: u32) -> bool
         return false;
     }
     depth - 1 <= previous
-}
-
-// The identity is not 0 and stands in no row above; then it is entered.
-fn row_identity(table: &[u32], i: usize, places: &mut [u32]) -> bool
-    requires row { ⌜ HasRow (now table) i ⌝ }
-    requires held { ⌜ Holds (now places) (above (now table) i) ⌝ }
-    ensures fresh { λ r. ⌜ r ≡ freshAt? (now (table .entry)) i ⌝ }
-    ensures held { λ r. ⌜ (r ≡ true → Holds (now (places .exit)) (above (now (table .entry)) (suc i))) ⌝ }
-{
-    let identity = identity_of(table, i);
-    if identity == 0 {
-        return false;
-    }
-    match identities::enter(places, identity) {
-        Entered::New => true,
-        Entered::Known => false,
-        Entered::NoPlace => !stands_above(table, i, identity),
-    }
-}
-
-// The plain search for an identity in the rows above row i.
-fn stands_above(table: &[u32], i: usize, identity: u32) -> bool
-    requires row { ⌜ HasRow (now table) i ⌝ }
-    ensures among { λ r. ⌜ r ≡ among? identity (above (now (table .entry)) i) ⌝ }
-{
-    let mut k = i;
-    while 0 < k {
-        k -= 1;
-        if identity == identity_of(table, k) {
-            return true;
-        }
-    }
-    false
 }
 
 fn identity_of(table: &[u32], i: usize) -> u32

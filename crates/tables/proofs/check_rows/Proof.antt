@@ -34,11 +34,11 @@ returns c =
     let t = l .before .before .args .table .now in
     sym (l .loop .inv .1 ∙ row-deep t (l .loop .i) (omega arith) (sym (c .before .row-depth .ensures) ∙ not-true _ (c .if1 .taken)))
 
-slice-aggregate-row-identity : tie.Need-slice-aggregate-row-identity Inv-loop μ-loop
-slice-aggregate-row-identity c = search needs
+slice-aggregate-new-at : tie.Need-slice-aggregate-new-at Inv-loop μ-loop
+slice-aggregate-new-at c = search needs
 
-row-identity-requires : tie.Need-row-identity-requires Inv-loop μ-loop
-row-identity-requires c κs = search needs
+new-at-requires : tie.Need-new-at-requires Inv-loop μ-loop
+new-at-requires c κs = search needs
 
 returns-2 : tie.Need-returns-2 Inv-loop μ-loop
 returns-2 c =
@@ -46,7 +46,7 @@ returns-2 c =
     let l = d .before .before in
     let t = l .before .before .args .table .now in
     let right = sym (d .row-depth .ensures) ∙ not-false _ (c .before .before .before .before .if1 .left) in
-    let used = sym (c .before .before .row-identity .ensures .0) ∙ not-true _ (c .if2 .taken) in
+    let used = sym (c .before .before .new-at .ensures .0) ∙ not-true _ (c .if2 .taken) in
     sym (l .loop .inv .1 ∙ row-used t (l .loop .i) (omega arith) right used)
 
 add-i : tie.Need-add-i Inv-loop μ-loop
@@ -61,7 +61,7 @@ loop-again c =
     let l = d .before .before in
     let t = l .before .before .args .table .now in
     let right = sym (d .row-depth .ensures) ∙ not-false _ (c .before .before .before .before .if1 .left) in
-    let n = c .before .before .row-identity .ensures in
+    let n = c .before .before .new-at .ensures in
     let new = not-false _ (c .if2 .left) in
     let e = row-right t (l .loop .i) (omega arith) right (sym (n .0) ∙ new) in
     (omega arith, rw add-one (l .loop .inv .1 ∙ e), rw add-one (n .1 new))
@@ -81,8 +81,8 @@ check-rows-spec =
     loop-holds
     row-depth-requires
     returns
-    slice-aggregate-row-identity
-    row-identity-requires
+    slice-aggregate-new-at
+    new-at-requires
     returns-2
     add-i
     loop-less
