@@ -1,11 +1,11 @@
 -- The bytes of a register and the lines that are read from them: a line whose label is sound has the bytes of its entry.
 -- Assumes nothing.
 use mathlib.Core.Path.{_≡_, refl, sym, ap, _∙_, subst}
-use mathlib.Core.Bool.{Bool, true, false, false≢true}
-use mathlib.Core.List.{List, [], _∷_, _++_}
+use mathlib.Core.Bool.{Bool, true, false}
+use mathlib.Core.List.{List, _++_}
 use Prim.Native.Nat.{ℕ, zero, suc, _+_, _*_, _≤_, _<_}
 use native.Mathlib.Omega.{arith}
-use lib.ListN.{length, take, drop, getD}
+use lib.ListN.{take, drop, getD}
 use lib.Seq.{take-add, drop-drop}
 use Rattle.digits.specs.Lists.{All}
 use Rattle.numbers.specs.Bytes.{le4, numberAt}
@@ -14,7 +14,7 @@ use Rattle.codes.specs.Code.{IsCode}
 use Rattle.codes.specs.Field.{fieldOf}
 use Rattle.labels.specs.Label.{fieldAt}
 use Rattle.trees.specs.Labelled.{Name, Entry}
-use Rattle.registers.specs.Layout.{mostEntries, countAt, zeroAt, headerSize, entrySize, entryPlace, identityAt, tagAt, startPlace, endPlace, parentPlace, HasPlace}
+use Rattle.registers.specs.Layout.{countAt, zeroAt, entrySize, entryPlace, startPlace, endPlace, parentPlace, HasPlace}
 use Rattle.registers.specs.Entries.{entryBytes, entriesBytes, registerBytes, entryAt, codeAt}
 use Rattle.registers.specs.Sound.{soundLabel?, lineAt, linesFrom, HasEntries}
 use Rattle.registers.proofs.SoundLaws.{sound-at, has-place}
@@ -37,9 +37,12 @@ five-parts b at =
     let q : at + 8 + 32 ≡ at + 40 = omega arith in
     let r : at + 40 + 32 ≡ at + 72 = omega arith in
     next-part b at 4 100
-    ∙ ap (λ (z : List ℕ). take 4 (drop at b) ++ z) (next-part b (at + 4) 4 96 ∙ ap (λ (k : ℕ). take 4 (drop (at + 4) b) ++ take 96 (drop k b)) p
-    ∙ ap (λ (z : List ℕ). take 4 (drop (at + 4) b) ++ z) (next-part b (at + 8) 32 64 ∙ ap (λ (k : ℕ). take 32 (drop (at + 8) b) ++ take 64 (drop k b)) q
-    ∙ ap (λ (z : List ℕ). take 32 (drop (at + 8) b) ++ z) (next-part b (at + 40) 32 32 ∙ ap (λ (k : ℕ). take 32 (drop (at + 40) b) ++ take 32 (drop k b)) r)))
+    ∙ ap (λ (z : List ℕ). take 4 (drop at b) ++ z) (next-part b (at + 4) 4 96 ∙ ap
+    (λ (k : ℕ). take 4 (drop (at + 4) b) ++ take 96 (drop k b)) p
+    ∙ ap (λ (z : List ℕ). take 4 (drop (at + 4) b) ++ z) (next-part b (at + 8) 32 64 ∙ ap
+    (λ (k : ℕ). take 32 (drop (at + 8) b) ++ take 64 (drop k b)) q
+    ∙ ap (λ (z : List ℕ). take 32 (drop (at + 8) b) ++ z) (next-part b (at + 40) 32 32 ∙ ap
+    (λ (k : ℕ). take 32 (drop (at + 40) b) ++ take 32 (drop k b)) r)))
 
 same-five : (v v′ w w′ x x′ y y′ z z′ : List ℕ) → v ≡ v′ → w ≡ w′ → x ≡ x′ → y ≡ y′ → z ≡ z′
     → v ++ (w ++ (x ++ (y ++ z))) ≡ v′ ++ (w′ ++ (x′ ++ (y′ ++ z′)))
@@ -60,7 +63,8 @@ entry-bytes b i y h t =
     let r : parentPlace i ≡ at + 72 = omega arith in
     let d : fieldOf (codeAt b (startPlace i)) ≡ take 32 (drop (at + 8) b) = sym (s .start-side .field) ∙ ap (λ (k : ℕ). fieldAt k b) p in
     let e : fieldOf (codeAt b (endPlace i)) ≡ take 32 (drop (at + 40) b) = sym (s .end-side .field) ∙ ap (λ (k : ℕ). fieldAt k b) q in
-    let f : fieldOf (codeAt b (parentPlace i)) ≡ take 32 (drop (at + 72) b) = sym (s .parent-side .field) ∙ ap (λ (k : ℕ). fieldAt k b) r in
+    let f : fieldOf (codeAt b (parentPlace i)) ≡ take 32 (drop (at + 72) b) =
+    sym (s .parent-side .field) ∙ ap (λ (k : ℕ). fieldAt k b) r in
     same-five _ _ _ _ _ _ _ _ _ _ a c d e f ∙ sym (five-parts b at)
 
 -- a line that starts with a code has a sound label
@@ -72,17 +76,20 @@ coded-sound b i c = go (soundLabel? b i) refl
     go false e = absurd (subst IsCode (line-blank b i e) c .formed)
 
 -- the bytes of lines that all start with codes
-pub lines-bytes : (b : List ℕ) (m i n : ℕ) → Bytes b → HasEntries b n → i + m ≤ n → All (λ (u : Entry Name). IsCode (u .start)) (linesFrom b i m)
+pub lines-bytes : (b : List ℕ) (m i n : ℕ) → Bytes b → HasEntries b n → i + m ≤ n
+    → All (λ (u : Entry Name). IsCode (u .start)) (linesFrom b i m)
     → entriesBytes (linesFrom b i m) ≡ take (entrySize * m) (drop (entryPlace i) b)
 lines-bytes b zero i n y h k a = refl
 lines-bytes b (suc m) i n y h k a =
     let t = coded-sound b i (a .0) in
     let e : entryBytes (lineAt b i) ≡ take entrySize (drop (entryPlace i) b) =
     ap entryBytes (line-sound b i t) ∙ entry-bytes b i y (has-place b n i h (omega arith)) t in
-    let f : entriesBytes (linesFrom b (suc i) m) ≡ take (entrySize * m) (drop (entryPlace (suc i)) b) = lines-bytes b m (suc i) n y h (omega arith) (a .1) in
+    let f : entriesBytes (linesFrom b (suc i) m) ≡ take (entrySize * m) (drop (entryPlace (suc i)) b) =
+    lines-bytes b m (suc i) n y h (omega arith) (a .1) in
     let p : entryPlace i + entrySize ≡ entryPlace (suc i) = omega arith in
     let q : entrySize * suc m ≡ entrySize + entrySize * m = omega arith in
-    rw (e, f, q) (sym (next-part b (entryPlace i) entrySize (entrySize * m) ∙ ap (λ (j : ℕ). take entrySize (drop (entryPlace i) b) ++ take (entrySize * m) (drop j b)) p))
+    rw (e, f, q) (sym (next-part b (entryPlace i) entrySize (entrySize * m) ∙ ap
+    (λ (j : ℕ). take entrySize (drop (entryPlace i) b) ++ take (entrySize * m) (drop j b)) p))
 
 -- the whole register
 pub register-bytes : (b : List ℕ) (n : ℕ) → Bytes b → HasEntries b n → numberAt b countAt ≡ n → numberAt b zeroAt ≡ 0
@@ -97,4 +104,5 @@ register-bytes b n y h c z a =
     ∙ ap (λ (x : List ℕ). x ++ (le4 0 ++ entriesBytes (linesFrom b 0 n))) d
     ∙ ap (λ (x : List ℕ). take 4 b ++ (x ++ entriesBytes (linesFrom b 0 n))) e
     ∙ ap (λ (x : List ℕ). take 4 b ++ (take 4 (drop 4 b) ++ x)) f
-    ∙ sym (ap (λ (k : ℕ). take k b) q ∙ next-part b 0 4 (4 + entrySize * n) ∙ ap (λ (x : List ℕ). take 4 b ++ x) (next-part b 4 4 (entrySize * n)))
+    ∙ sym (ap (λ (k : ℕ). take k b) q ∙ next-part b 0 4 (4 + entrySize * n) ∙ ap (λ (x : List ℕ). take 4 b ++ x)
+    (next-part b 4 4 (entrySize * n)))

@@ -2,8 +2,8 @@
 use mathlib.Core.Path.{_≡_, refl, sym, ap, _∙_, subst}
 use mathlib.Core.Logic.{_≢_}
 use mathlib.Core.Bool.{true}
-use mathlib.Core.List.{List, [], _∷_, _++_}
-use Prim.Native.Nat.{ℕ, suc, _+_, _*_, _≤_}
+use mathlib.Core.List.{List}
+use Prim.Native.Nat.{ℕ, _*_, _≤_}
 use native.Mathlib.Omega.{arith}
 use lib.ListN.{length, take, drop, length-take}
 use lib.Seq.{take-all}
@@ -17,9 +17,9 @@ use Rattle.trees.specs.Forest.{Forest, nil, node, preorder, Rooted}
 use Rattle.trees.specs.Labelled.{Name, Entry, Tree}
 use Rattle.trees.proofs.ForestLaws.{length-preorder}
 use Rattle.trees.proofs.UniqueLaws.{one-tree}
-use Rattle.registers.specs.Layout.{mostEntries, deepest, headerSize, entrySize, entryPlace, zeroAt}
+use Rattle.registers.specs.Layout.{deepest, entrySize, entryPlace, zeroAt}
 use Rattle.registers.specs.Entries.{entriesBytes, registerBytes}
-use Rattle.registers.specs.Holds.{identities, Whole, Holds}
+use Rattle.registers.specs.Holds.{identities, Holds}
 use Rattle.registers.specs.Sound.{linesFrom, tree?}
 use Rattle.registers.specs.Questions.{countOf, linesOf, sized?, registerSound?}
 use Rattle.registers.proofs.SoundLaws.{part-of}
@@ -28,7 +28,7 @@ use Rattle.registers.proofs.EntryLaws.{entries-length, register-length}
 use Rattle.registers.proofs.BytesLaws.{Bytes, register-bytes}
 use Rattle.registers.proofs.TreeLaws.{tree-lined, lined-tree, coded-starts, tree-labels}
 use Rattle.registers.proofs.ReadLaws.{number-of, lines-read}
-use Rattle.registers.proofs.QuestionLaws.{Sized, sized→, sized-entries, parts-of, by-zero, by-tree}
+use Rattle.registers.proofs.QuestionLaws.{sized→, sized-entries, parts-of, by-zero, by-tree}
 
 -- some tree is held
 pub record Held (b : List ℕ) : Type 0 where
@@ -108,7 +108,13 @@ module _ (b : List ℕ) (f : Forest (Entry Name)) (h : Holds b f) where
 
   pub holds-sound : registerSound? b ≡ true
   holds-sound =
-      let t : tree? b n ≡ true = lined-tree b n (record { tree = f; rooted = h .whole .rooted; entries = sym lines-are; sound = h .whole .sound }) in
+      let t : tree? b n ≡ true = lined-tree b n (record {
+        tree = f;
+        rooted = h .whole .rooted;
+        entries = sym lines-are;
+        sound = h .whole
+            .sound;
+      }) in
       let i : allNew? (identities us) ≡ true = →all-new (identities us) (h .whole .real) (h .whole .distinct) in
       sym (by-tree b holds-sized (ap (λ z. allNew? (identities z)) lines-held ∙ i)) ∙ ap (tree? b) count-is ∙ t
 

@@ -8,3 +8,4 @@ pub mod TreeLaws
 pub mod ReadLaws
 pub mod QuestionLaws
 pub mod HoldsLaws
+pub mod AnswerLaws

@@ -1,7 +1,7 @@
 -- Laws of the size of a register, of its identities, and of the loops that look for one or count what is above one. Assumes nothing.
 use mathlib.Core.Path.{_≡_, refl, sym, ap, _∙_, subst}
 use mathlib.Core.Bool.{Bool, true, false, cond, _&&_, and-eq-true-iff}
-use mathlib.Core.List.{List, [], _∷_, _++_, map}
+use mathlib.Core.List.{List, [], _∷_, _++_}
 use Prim.Native.Nat.{ℕ, zero, suc, _+_, _-_, _≤_, _<_}
 use native.Mathlib.Numerals.{add-one}
 use native.Mathlib.Omega.{arith}
@@ -133,14 +133,16 @@ line-at b zero i j d h = absurd (omega arith)
 line-at b (suc m) i zero d h = let e : i + 0 ≡ i = omega arith in ap (lineAt b) (sym e)
 line-at b (suc m) i (suc j) d h = let e : suc i + j ≡ i + suc j = omega arith in line-at b m (suc i) j d (omega arith) ∙ ap (lineAt b) e
 
-identities-more : (b : List ℕ) (m i : ℕ) → identities (linesFrom b i (suc m)) ≡ identities (linesFrom b i m) ++ (lineAt b (i + m) .name .identity ∷ [])
+identities-more : (b : List ℕ) (m i : ℕ)
+    → identities (linesFrom b i (suc m)) ≡ identities (linesFrom b i m) ++ (lineAt b (i + m) .name .identity ∷ [])
 identities-more b zero i = let e : i + 0 ≡ i = omega arith in ap (λ (k : ℕ). lineAt b k .name .identity ∷ []) (sym e)
 identities-more b (suc m) i =
     let e : suc i + m ≡ i + suc m = omega arith in
     ap (λ (l : List ℕ). lineAt b i .name .identity ∷ l)
     (identities-more b m (suc i) ∙ ap (λ (k : ℕ). identities (linesFrom b (suc i) m) ++ (lineAt b k .name .identity ∷ [])) e)
 
-pub identity-next : (b all : List ℕ) (i v : ℕ) → i < length all → v ≡ lineAt b i .name .identity → take i all ≡ identities (linesFrom b 0 i)
+pub identity-next : (b all : List ℕ) (i v : ℕ) → i < length all → v ≡ lineAt b i .name .identity
+    → take i all ≡ identities (linesFrom b 0 i)
     → take (i + 1) (set all i v) ≡ identities (linesFrom b 0 (i + 1))
 identity-next b all i v h e f =
     let z : 0 + i ≡ i = omega arith in
@@ -179,10 +181,10 @@ module _ (b : List ℕ) (x i : ℕ) (h : i < countOf b) where
 pub found-none : (b : List ℕ) (x i : ℕ) → i ≡ countOf b → Nothing ≡ FoundAt b x i
 found-none b x i e = let z : countOf b - countOf b ≡ 0 = omega arith in rw (e, z) refl
 
-at-is : {i j : ℕ} → At i ≡ At j → i ≡ j
+pub at-is : {i j : ℕ} → At i ≡ At j → i ≡ j
 at-is e = cc
 
-nothing-at : {A : Type 0} {i : ℕ} → Nothing ≡ At i → A
+pub nothing-at : {A : Type 0} {i : ℕ} → Nothing ≡ At i → A
 nothing-at e = let z : _≡_ {A = ℕ} 0 1 = cc in absurd (omega arith)
 
 found-bound : (ys : List ℕ) (x i j : ℕ) → foundFrom i x ys ≡ At j → j < i + length ys
@@ -194,9 +196,22 @@ found-bound (y ∷ ys) x i j e = go (eqb x y) (λ f. found-bound ys x (suc i) j 
     go true more e = omega (arith, at-is e)
     go false more e = omega (arith, more e)
 
+pub found-from : (ys : List ℕ) (x i j : ℕ) → foundFrom i x ys ≡ At j → i ≤ j
+found-from [] x i j e = nothing-at e
+found-from (y ∷ ys) x i j e = go (eqb x y) (λ f. found-from ys x (suc i) j f) e
+  where
+    go : (t : Bool) → (foundFrom (suc i) x ys ≡ At j → suc i ≤ j) → cond t (At i) (foundFrom (suc i) x ys) ≡ At j → i ≤ j
+    go true more e = omega (arith, at-is e)
+    go false more e = omega (arith, more e)
+
 pub found-inside : (b : List ℕ) (x j : ℕ) → foundIn b x ≡ At j → j < countOf b
 found-inside b x j e =
-    omega (arith, found-bound (identities (linesOf b)) x 0 j e, length-map (linesOf b) (λ (u : Entry Name). u .name .identity), lines-length b 0 (countOf b))
+    omega (
+      arith,
+      found-bound (identities (linesOf b)) x 0 j e,
+      length-map (linesOf b) (λ (u : Entry Name). u .name .identity),
+      lines-length b 0 (countOf b),
+    )
 
 -- counting what is above
 abbrev pub DepthFrom : List ℕ → ℕ → ℕ → ℕ
@@ -242,7 +257,8 @@ sub-small (suc i) j h k = go (ltb j (suc i))
 
 module _ (i j : ℕ) (h : i < 4096) (k : j < 4096) where
   difference : toZ w32 j -ℤ toZ w32 i ≡ pos j -ℤ pos i
-  difference = ap (λ (z : ℤ). z -ℤ toZ w32 i) (toZ-pos w32 {n = j} (omega arith)) ∙ ap (λ (z : ℤ). pos j -ℤ z) (toZ-pos w32 {n = i} (omega arith))
+  difference = ap (λ (z : ℤ). z -ℤ toZ w32 i) (toZ-pos w32 {n = j} (omega arith)) ∙ ap (λ (z : ℤ). pos j -ℤ z)
+      (toZ-pos w32 {n = i} (omega arith))
 
   pub difference-fits : SFits w32 (toZ w32 j -ℤ toZ w32 i)
   difference-fits = subst (SFits w32) (sym difference) (record { sfits = omega (arith, sub-small i j h k) })
@@ -272,7 +288,8 @@ module _ (b : List ℕ) (x : ℕ) where
   unfolding distanceAnswer
   distance-unsound y e = rw e refl
 
-  pub distance-found : (y : ℕ) → registerSound? b ≡ true → (f g : Found) → f ≡ foundIn b x → g ≡ foundIn b y → distanceAs f g ≡ distanceAnswer b x y
+  pub distance-found : (y : ℕ) → registerSound? b ≡ true → (f g : Found) → f ≡ foundIn b x → g ≡ foundIn b y
+      → distanceAs f g ≡ distanceAnswer b x y
   unfolding distanceAnswer
   distance-found y e f g p q = rw (e, p, q) refl
 

@@ -1,32 +1,31 @@
 -- What is read from the bytes of entries: the entries, where their labels are as 01 asks. Assumes nothing.
-use mathlib.Core.Path.{_≡_, refl, sym, ap, _∙_, subst}
+use mathlib.Core.Path.{_≡_, refl, sym, ap, _∙_}
 use mathlib.Core.Logic.{_⊎_, inl, inr}
-use mathlib.Core.Bool.{true, _&&_}
+use mathlib.Core.Bool.{true}
 use mathlib.Core.List.{List, [], _∷_, _++_}
-use Prim.Native.Nat.{ℕ, zero, suc, _+_, _*_, _≤_, _<_}
+use Prim.Native.Nat.{ℕ, suc, _+_, _*_, _≤_, _<_}
 use native.Mathlib.Omega.{arith}
-use lib.Dec.{eqb}
 use lib.ListN.{length, take, drop, getD, length-append}
 use lib.Seq.{take-at, take-all, drop-at, drop-drop, take-take, getD-take, getD-drop}
 use borrow.Author.Tests.{eq-eqb}
 use Rattle.digits.specs.Lists.{All}
-use Rattle.digits.specs.Order.{Digits, Below, below?}
+use Rattle.digits.specs.Order.{Digits, Below}
 use Rattle.digits.proofs.OrderLaws.{below?-true}
-use Rattle.numbers.specs.Bytes.{le4, numberAt}
+use Rattle.numbers.specs.Bytes.{numberAt}
 use Rattle.numbers.proofs.PutLaws.{take-drop}
 use Rattle.codes.specs.Code.{fieldSize, IsCode}
 use Rattle.codes.specs.Field.{fieldOf}
-use Rattle.codes.specs.Reading.{code, empty, read, sideOf}
+use Rattle.codes.specs.Reading.{empty, read, sideOf}
 use Rattle.codes.proofs.FieldLaws.{field-length}
 use Rattle.codes.proofs.ReadingLaws.{read-field, read-nothing}
-use Rattle.labels.specs.Label.{labelSize, startAt, endAt, parentAt, fieldAt, soundAs?, sound?}
+use Rattle.labels.specs.Label.{labelSize, startAt, endAt, parentAt, fieldAt, sound?}
 use Rattle.trees.specs.Labelled.{Name, Entry}
-use Rattle.registers.specs.Layout.{entrySize, entryPlace, labelAt, startPlace, endPlace, parentPlace}
-use Rattle.registers.specs.Entries.{entryBytes, entriesBytes, entryAt, codeAt}
+use Rattle.registers.specs.Layout.{entrySize, entryPlace, labelAt}
+use Rattle.registers.specs.Entries.{entryBytes, entriesBytes, entryAt}
 use Rattle.registers.specs.Sound.{labelBytes, soundLabel?, lineAt, linesFrom}
 use Rattle.registers.proofs.SoundLaws.{part-of}
 use Rattle.registers.proofs.RowLaws.{line-sound}
-use Rattle.registers.proofs.EntryLaws.{entry-length, entries-length}
+use Rattle.registers.proofs.EntryLaws.{entry-length}
 use Rattle.registers.proofs.TreeLaws.{Label}
 
 -- a number in a part of a list
@@ -72,7 +71,8 @@ module _ (u : Entry Name) where
   field-parent =
       let s = field-length (u .start) in
       let e = field-length (u .end) in
-      ap (take 32) (sym (drop-two (fieldOf (u .start)) (fieldOf (u .end)) (fieldOf (u .parent)) s e)) ∙ take-all 32 (fieldOf (u .parent)) (omega (arith, field-length (u .parent)))
+      ap (take 32) (sym (drop-two (fieldOf (u .start)) (fieldOf (u .end)) (fieldOf (u .parent)) s e)) ∙ take-all 32
+      (fieldOf (u .parent)) (omega (arith, field-length (u .parent)))
     where
       drop-two : (x y z : List ℕ) → length x ≡ 32 → length y ≡ 32 → z ≡ drop 64 (x ++ (y ++ z))
       drop-two x y z s e =
@@ -129,7 +129,8 @@ same-entry i j g h s s′ e e′ p p′ a b c d f = rw (a, b, c, d, f) refl
 module _ (b : List ℕ) (i : ℕ) (u : Entry Name) (e : take entrySize (drop (entryPlace i) b) ≡ entryBytes u) (l : Label u) where
   label-is : labelBytes b i ≡ fields u
   unfolding entryBytes
-  label-is = part-of b (entryBytes u) (entryPlace i) entrySize labelAt labelSize e (omega arith) ∙ take-all labelSize (fields u) (omega (arith, fields-length u))
+  label-is = part-of b (entryBytes u) (entryPlace i) entrySize labelAt labelSize e (omega arith) ∙ take-all labelSize (fields u)
+      (omega (arith, fields-length u))
 
   field-is : (at : ℕ) → at + fieldSize ≤ labelSize → fieldAt (entryPlace i + labelAt + at) b ≡ take fieldSize (drop at (fields u))
   field-is at h = part-of b (fields u) (entryPlace i + labelAt) labelSize at fieldSize label-is h
@@ -150,7 +151,8 @@ module _ (b : List ℕ) (i : ℕ) (u : Entry Name) (e : take entrySize (drop (en
       (ap (λ z. sideOf (read z)) (field-is parentAt (omega arith) ∙ field-parent u) ∙ side-read (u .parent) (parent-side u l))
 
 -- entries are read back from theirs
-pub lines-read : (b : List ℕ) (us : List (Entry Name)) (i : ℕ) → take (entrySize * length us) (drop (entryPlace i) b) ≡ entriesBytes us → All Label us
+pub lines-read : (b : List ℕ) (us : List (Entry Name)) (i : ℕ)
+    → take (entrySize * length us) (drop (entryPlace i) b) ≡ entriesBytes us → All Label us
     → linesFrom b i (length us) ≡ us
 lines-read b [] i e a = refl
 lines-read b (u ∷ us) i e a =
@@ -159,9 +161,11 @@ lines-read b (u ∷ us) i e a =
     let q : entrySize * suc (length us) ≡ entrySize + m = omega arith in
     let w : take (entrySize + m) d ≡ entryBytes u ++ entriesBytes us = ap (λ (z : ℕ). take z d) (sym q) ∙ e in
     let f : take entrySize d ≡ entryBytes u =
-    sym (take-take entrySize (entrySize + m) d (omega arith)) ∙ ap (take entrySize) w ∙ take-at (entryBytes u) (entriesBytes us) entrySize (entry-length u) in
+    sym (take-take entrySize (entrySize + m) d (omega arith)) ∙ ap (take entrySize) w ∙ take-at (entryBytes u) (entriesBytes us)
+    entrySize (entry-length u) in
     let p : entryPlace i + entrySize ≡ entryPlace (suc i) = omega arith in
     let g : take m (drop (entryPlace (suc i)) b) ≡ entriesBytes us =
-    ap (λ (k : ℕ). take m (drop k b)) (sym p) ∙ ap (take m) (sym (drop-drop entrySize (entryPlace i) b)) ∙ take-drop entrySize m d ∙ ap (drop entrySize) w
+    ap (λ (k : ℕ). take m (drop k b)) (sym p) ∙ ap (take m) (sym (drop-drop entrySize (entryPlace i) b)) ∙ take-drop entrySize m d ∙ ap
+    (drop entrySize) w
     ∙ drop-at (entryBytes u) (entriesBytes us) entrySize (entry-length u) in
     rw (entry-read b i u f (a .0), lines-read b us (suc i) g (a .1)) refl

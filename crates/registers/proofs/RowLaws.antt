@@ -1,6 +1,6 @@
 -- Laws of the walk over a register's lines by their numbers: each step of a row, with no fuel and no lists. Assumes nothing.
-use mathlib.Core.Path.{_≡_, refl, sym, ap, _∙_, subst}
-use mathlib.Core.Bool.{Bool, true, false, cond, _&&_, false≢true}
+use mathlib.Core.Path.{_≡_, refl, sym, ap, _∙_}
+use mathlib.Core.Bool.{Bool, true, false, cond, _&&_}
 use mathlib.Core.List.{List, [], _∷_}
 use Prim.Native.Nat.{ℕ, zero, suc, pred, _+_, _-_, _≤_, _<_}
 use native.Mathlib.Numerals.{add-one}
@@ -8,9 +8,9 @@ use native.Mathlib.Omega.{arith}
 use lib.Dec.{eqb, ltb}
 use lib.ListN.{length, drop}
 use borrow.Author.Tests.{eq-eqb, ne-eqb, lt-ltb}
-use Rattle.digits.specs.Order.{Digits, Below, below?}
+use Rattle.digits.specs.Order.{Digits, below?}
 use Rattle.digits.proofs.OrderLaws.{below?-true}
-use Rattle.codes.specs.Code.{IsCode, code?}
+use Rattle.codes.specs.Code.{IsCode}
 use Rattle.codes.specs.Reading.{same?}
 use Rattle.codes.proofs.TestLaws.{true-code?}
 use Rattle.trees.specs.Labelled.{Name, Entry, starts, ends}
@@ -21,7 +21,7 @@ use Rattle.registers.specs.declared.walk.Walked.the-variants.{To, Unsoun
 use Rattle.registers.specs.Layout.{startPlace, endPlace, parentPlace, HasPlace}
 use Rattle.registers.specs.Entries.{codeAt, entryAt}
 use Rattle.registers.specs.Sound.{soundLabel?, tree?, lineAt, linesFrom, entry?, placed, rowFrom, levels, childrenFrom, entryFrom}
-use Rattle.registers.proofs.SoundLaws.{SoundAt, sound-at}
+use Rattle.registers.proofs.SoundLaws.{sound-at}
 
 -- lines by their numbers
 pub lines-length : (b : List ℕ) (i m : ℕ) → length (linesFrom b i m) ≡ m
@@ -191,7 +191,8 @@ module _ (b : List ℕ) (n parent depth : ℕ) (l : Digits) (i : ℕ) (h : i < n
   unfolding rowFrom onward
   went next fault e g a = never g
   went next (rest us) e g a =
-      let q = row-rest starts ends entry? (pred k) (lineAt b i .start) (lineAt b i .start) (lineAt b i .end) (linesFrom b (suc i) (n - suc i)) us e in
+      let q = row-rest starts ends entry? (pred k) (lineAt b i .start) (lineAt b i .start) (lineAt b i .end)
+      (linesFrom b (suc i) (n - suc i)) us e in
       let w : length (linesFrom b (suc i) (n - suc i)) ≡ n - suc i = lines-length b (suc i) (n - suc i) in
       let v : n - length us ≡ next = to-is g in
       let m : ℕ = length (linesFrom b (suc i) (n - suc i)) - length us in
@@ -236,7 +237,8 @@ module _ (b : List ℕ) (n parent depth : ℕ) (l : Digits) (i : ℕ) where
     abbrev placed? : Bool
     placed? =
         below? l (codeAt b (startPlace i))
-        && (below? (codeAt b (endPlace i)) (codeAt b (endPlace parent)) && same? (codeAt b (parentPlace i)) (codeAt b (startPlace parent)))
+        && (below? (codeAt b (endPlace i)) (codeAt b (endPlace parent)) && same? (codeAt b (parentPlace i))
+        (codeAt b (startPlace parent)))
 
     entry-is : entry? (levels depth) (codeAt b (startPlace parent)) l (codeAt b (endPlace parent)) (lineAt b i) ≡ placed?
     entry-is =
@@ -292,7 +294,8 @@ module _ (b : List ℕ) (n : ℕ) (some : 0 < n) where
     all-used fault e end g = never g
     all-used (rest []) e end g = let z : end ≡ n = sym (to-is g) ∙ omega arith in eq-eqb end n z
     all-used (rest (u ∷ us)) e end g =
-        let q = row-rest starts ends entry? 63 (lineAt b 0 .start) (lineAt b 0 .start) (lineAt b 0 .end) (linesFrom b 1 (n - 1)) (u ∷ us) e in
+        let q = row-rest starts ends entry? 63 (lineAt b 0 .start) (lineAt b 0 .start) (lineAt b 0 .end) (linesFrom b 1 (n - 1))
+        (u ∷ us) e in
         let w = lines-length b 1 (n - 1) in
         let v : n - suc (length us) ≡ end = to-is g in
         ne-eqb end n (λ z. omega (arith, q .0))
@@ -301,7 +304,8 @@ module _ (b : List ℕ) (n : ℕ) (some : 0 < n) where
         → eqb end n ≡ tree? b n
     tree-end o end g = all-used inside refl end (sym inside-is ∙ g) ∙ sym (tree-whole o)
 
-    pub tree-un : same? (codeAt b (parentPlace 0)) [] ≡ true → childrenFrom b n 0 1 (codeAt b (startPlace 0)) 1 ≡ Unsound → false ≡ tree? b n
+    pub tree-un : same? (codeAt b (parentPlace 0)) [] ≡ true → childrenFrom b n 0 1 (codeAt b (startPlace 0)) 1 ≡ Unsound
+        → false ≡ tree? b n
     tree-un o g = sym (tree-whole o ∙ go inside (sym inside-is ∙ g))
       where
         go : (m : Rest (Entry Name)) → placed n m ≡ Unsound → whole? m ≡ false

@@ -1,9 +1,9 @@
 -- Laws of sound labels in a register: what their fields hold, and how two fields compare. Assumes nothing.
 use mathlib.Core.Path.{_≡_, refl, sym, ap, _∙_, subst}
 use mathlib.Core.Logic.{_⊎_, inl, inr}
-use mathlib.Core.Bool.{Bool, true, false, cond, _&&_}
+use mathlib.Core.Bool.{Bool, true, false, _&&_}
 use mathlib.Core.List.{List, [], _∷_}
-use Prim.Native.Nat.{ℕ, zero, suc, _+_, _-_, _≤_, _<_}
+use Prim.Native.Nat.{ℕ, _+_, _-_, _≤_, _<_}
 use native.Mathlib.Omega.{arith}
 use lib.ListN.{length, take, drop}
 use lib.Seq.{take-take, drop-drop}
@@ -15,8 +15,8 @@ use Rattle.codes.specs.declared.field.Kind.{Kind}
 use Rattle.codes.specs.declared.field.Kind.the-variants.{Full, Empty, Unsound}
 use Rattle.codes.specs.Reading.{read, sideOf, kindOf, same?}
 use Rattle.codes.proofs.ReadingLaws.{read-field, read-nothing, same?-field}
-use Rattle.labels.specs.Label.{labelSize, startAt, endAt, parentAt, fieldAt, codeHeld?, sound?, labelOf}
-use Rattle.labels.proofs.LabelLaws.{Sound, sound→, held-below}
+use Rattle.labels.specs.Label.{labelSize, startAt, endAt, parentAt, fieldAt, codeHeld?, labelOf}
+use Rattle.labels.proofs.LabelLaws.{sound→, held-below}
 use Rattle.registers.specs.Layout.{entryPlace, labelAt, startPlace, endPlace, parentPlace, HasPlace}
 use Rattle.registers.specs.Entries.{codeAt}
 use Rattle.registers.specs.Sound.{labelBytes, soundLabel?, CodeAt, SideAt, HasEntries, HasLabel}
@@ -32,7 +32,8 @@ part-of b x p n k m e h =
     sym g ∙ ap (λ (z : List ℕ). take m (drop k z)) e
 
 -- a field of a label is a field of the register
-pub label-field : (b : List ℕ) (i at : ℕ) → at + fieldSize ≤ labelSize → fieldAt at (labelBytes b i) ≡ fieldAt (entryPlace i + labelAt + at) b
+pub label-field : (b : List ℕ) (i at : ℕ) → at + fieldSize ≤ labelSize
+    → fieldAt at (labelBytes b i) ≡ fieldAt (entryPlace i + labelAt + at) b
 label-field b i at h = sym (part-of b (labelBytes b i) (entryPlace i + labelAt) labelSize at fieldSize refl h)
 
 -- a field that is that of a code holds it
@@ -73,7 +74,8 @@ sound-at b i h t =
       end-at = (ie, code-held b (endPlace i) _ ce fe);
       end-side = record { inside = ie; field = fe; side = inr ce };
       parent-side = record { inside = omega arith; field = fp; side = subst (λ f. (code f ≡ []) ⊎ IsCode (code f)) ep (s .parent-side) };
-      inner = subst (λ f. Below (code f) (codeAt b (endPlace i))) es (subst (λ f. Below (code (fieldAt startAt (labelBytes b i))) (code f)) ee (s .spans));
+      inner = subst (λ f. Below (code f) (codeAt b (endPlace i))) es (subst
+          (λ f. Below (code (fieldAt startAt (labelBytes b i))) (code f)) ee (s .spans));
     }
 
 -- two fields compare as their codes

@@ -1,12 +1,10 @@
 -- The tree test in both directions: it holds exactly where some sound tree has these lines. Assumes nothing.
-use mathlib.Core.Path.{_≡_, refl, sym, ap, _∙_, subst}
+use mathlib.Core.Path.{_≡_, refl, sym, subst}
 use mathlib.Core.Logic.{_⊎_, inl, inr}
-use mathlib.Core.Bool.{Bool, true, false, _&&_, and-eq-true-iff}
-use mathlib.Core.List.{List, [], _∷_, _++_}
-use Prim.Native.Nat.{ℕ, zero, suc, pred, _+_, _≤_, _<_}
-use native.Mathlib.Omega.{arith}
+use mathlib.Core.Bool.{true, and-eq-true-iff}
+use mathlib.Core.List.{List, [], _∷_}
+use Prim.Native.Nat.{ℕ, suc, pred}
 use lib.Dec.{ltb}
-use lib.ListN.{length}
 use borrow.Author.Tests.{ltb-true, lt-ltb}
 use Rattle.digits.specs.Lists.{All}
 use Rattle.digits.specs.Order.{Digits, Below, below?}
@@ -18,12 +16,11 @@ use Rattle.codes.proofs.TestLaws.{code?-true, true-code?}
 use Rattle.codes.proofs.ReadingLaws.{same?-true, same?-refl}
 use Rattle.labels.proofs.LabelLaws.{below?-holds}
 use Rattle.trees.specs.Forest.{Forest, nil, node, preorder, Rooted}
-use Rattle.trees.specs.Tour.{tour}
 use Rattle.trees.specs.Labelled.{Name, Entry, starts, ends, parents, codes, Sound}
 use Rattle.trees.specs.Check.{under?, InPlace, treeWalk?}
 use Rattle.trees.proofs.ListLaws.{all-append}
 use Rattle.trees.proofs.WalkLaws.{under?→, →under?}
-use Rattle.trees.proofs.CheckLaws.{Facts, TreeOf, tree-of, tree-passes, facts-at}
+use Rattle.trees.proofs.CheckLaws.{Facts, tree-of, tree-passes, facts-at}
 use Rattle.registers.specs.Layout.{deepest}
 use Rattle.registers.specs.Sound.{entry?, linesFrom, tree?}
 

@@ -1,7 +1,7 @@
 -- When a lent buffer is a sound register, as tests that compute. The walk over the entries is that of `trees`. Assumes nothing.
 use mathlib.Core.Path.{_≡_}
 use mathlib.Core.Logic.{_⊎_}
-use mathlib.Core.Bool.{Bool, true, false, cond, _&&_}
+use mathlib.Core.Bool.{Bool, true, cond, _&&_}
 use mathlib.Core.List.{List, [], _∷_}
 use Prim.Native.Nat.{ℕ, zero, suc, _+_, _-_, _≤_, _<_}
 use lib.Dec.{ltb}
@@ -15,7 +15,7 @@ use Rattle.trees.specs.Labelled.{Name, Entry, starts, ends}
 use Rattle.trees.specs.Check.{under?, Rest, rest, fault, rowWalk, treeWalk?}
 use Rattle.registers.specs.declared.walk.Walked.{Walked}
 use Rattle.registers.specs.declared.walk.Walked.the-variants.{To, Unsound}
-use Rattle.registers.specs.Layout.{mostEntries, deepest, labelAt, entryPlace, startPlace, endPlace, parentPlace}
+use Rattle.registers.specs.Layout.{mostEntries, deepest, labelAt, entryPlace, startPlace, endPlace}
 use Rattle.registers.specs.Entries.{codeAt, entryAt}
 
 -- the label of entry i

@@ -3,7 +3,6 @@ ghost use mathlib.Core.Path.{_≡_};
 ghost use mathlib.Core.Bool.{true, _&&_};
 ghost use mathlib.Core.List.{[]};
 ghost use Prim.Native.Nat.{_+_, _≤_, _<_};
-ghost use lib.ListN.{length};
 ghost use Rattle.digits.specs.Order.{below?};
 ghost use Rattle.codes.specs.Reading.{same?};
 ghost use Rattle.registers.specs.Layout.{mostEntries, startPlace, endPlace, parentPlace, HasPlace};

@@ -1,6 +1,7 @@
 -- An accepted table gives a sound register whose plain tree is the table's, with first codes of at most m digits. Assumes nothing.
 use mathlib.Core.Path.{_≡_, refl, sym, ap, _∙_, subst}
 use mathlib.Core.Logic.{_≢_}
+use mathlib.Core.Bool.{true}
 use mathlib.Core.List.{List, [], _∷_, map}
 use Prim.Native.Nat.{ℕ, suc, _*_, _≤_}
 use native.Mathlib.Omega.{arith}
@@ -19,6 +20,8 @@ use Rattle.trees.proofs.LabelledLaws.{plain-labelled, size-labelled, within-lab
 use Rattle.registers.specs.Layout.{deepest, entryPlace}
 use Rattle.registers.specs.Entries.{registerBytes}
 use Rattle.registers.specs.Holds.{identities as identitiesOf, Whole, Holds}
+use Rattle.registers.specs.Questions.{registerSound?}
+use Rattle.registers.proofs.HoldsLaws.{holds-sound}
 use Rattle.tables.specs.declared.Checked.the-variants.{Rows}
 use Rattle.tables.specs.Table.{rowsOf}
 use Rattle.tables.specs.Rules.{checkedOf}
@@ -77,6 +80,10 @@ module _ (t : List ℕ) (n : ℕ) (e : checkedOf t ≡ Rows n) where
         ap (λ (o : Outcome). take (length (registerBytes (preorder (labelledTree t)))) (o .bytes)) (outcome-written t n e lent room)
         ∙ put-run lent 0 (registerBytes (preorder (labelledTree t))) (omega arith);
   }
+
+  -- .. as the test of a register says too ..
+  pub label-sound : (lent : List ℕ) → entryPlace n ≤ length lent → registerSound? (labelOutcome t lent .bytes) ≡ true
+  label-sound lent room = holds-sound (labelOutcome t lent .bytes) (labelledTree t) (label-holds lent room)
 
   -- demand 3: .. and its codes have at most m digits, m least such that 3 ^ m > 2N
   pub label-within : (m : ℕ) → Enough 3 (2 * n) m → All (Within 1 3 m) (codes (labelledTree t))

@@ -1,14 +1,12 @@
 -- `depth` meets its contract. Assumes nothing.
-use mathlib.Core.Path.{_≡_, sym, ap, _∙_, subst}
-use Prim.Native.Nat.{ℕ, _<_}
+use mathlib.Core.Path.{sym, ap, _∙_}
 use native.Mathlib.Omega.{arith}
-use lib.IntN.{ℤ, pos}
+use lib.IntN.{pos}
 use mir.Syntax.{w32}
 use mir.Facts.{toZ-pos}
 use borrow.Author.Tests.{not-true, not-false}
 use Rattle.answers.proofs.SignedLaws.{read-back}
-use Rattle.registers.specs.declared.Found.the-variants.{At}
-use Rattle.registers.specs.Questions.{countOf, depthAs}
+use Rattle.registers.specs.Questions.{depthAs}
 use Rattle.registers.proofs.QuestionLaws.{sized→, parts-of, found-inside, depth-bound, depth-unsound, depth-found}
 use borrow.Author.Needs.{needs}
 use Rattle.registers.proofs.depth.Statement.{statement}
@@ -43,26 +41,43 @@ returns-2 : tie.Need-returns-2
 returns-2 c =
     let a = c .before .before .before .before .before .before .before .args in
     read-back w32 _ (c .signed2 .ok) ∙ c .signed2 .ensures ∙ ap (depthAs (a .register .now)) (sym (c .before .enum-told .given .1))
-    ∙ depth-found (a .register .now) (a .identity) (sym (c .before .before .before .before .before .sound .ensures) ∙ not-false _ (c .before .before .before .before .if1 .left)) _ (c .before .before .before .find .ensures)
+    ∙ depth-found (a .register .now) (a .identity) (sym (c .before .before .before .before .before .sound .ensures) ∙ not-false _
+    (c .before .before .before .before .if1 .left)) _ (c .before .before .before .find .ensures)
 
 depth-at-requires : tie.Need-depth-at-requires
 depth-at-requires c κs =
-    let a = c .before .before .before .before .before .before .before .args in
-    (sym (c .before .before .before .before .before .sound .ensures) ∙ not-false _ (c .before .before .before .before .if1 .left), found-inside (a .register .now) (a .identity) _ (sym (c .before .before .before .find .ensures) ∙ c .before .place .given .1))
+    let a = c .before .before .before .before .before .before .before .args in (
+      sym (c .before .before .before .before .before .sound .ensures) ∙ not-false _ (c .before .before .before .before .if1 .left),
+      found-inside (a .register .now) (a .identity) _ (sym (c .before .before .before .find .ensures) ∙ c .before .place .given .1),
+    )
 
 cast-result : tie.Need-cast-result
 cast-result c =
     let a = c .before .before .before .before .before .before .before .before .args in
-    let s = sized→ (a .register .now) (parts-of (a .register .now) (sym (c .before .before .before .before .before .before .sound .ensures) ∙ not-false _ (c .before .before .before .before .before .if1 .left)) .sized) in
-    record { sfits = omega (arith, c .depth-at .ensures, depth-bound (a .register .now) (c .before .before .place .given .0 .0), s .most) }
+    let s = sized→ (a .register .now) (parts-of (a .register .now) (sym
+    (c .before .before .before .before .before .before .sound .ensures) ∙ not-false _
+    (c .before .before .before .before .before .if1 .left)) .sized) in
+    record {
+      sfits = omega (
+        arith,
+        c .depth-at .ensures,
+        depth-bound (a .register .now) (c .before .before .place .given .0 .0),
+        s
+            .most,
+      );
+    }
 
 returns-3 : tie.Need-returns-3
 returns-3 c =
     let a = c .before .before .before .before .before .before .before .before .args in
-    let s = sized→ (a .register .now) (parts-of (a .register .now) (sym (c .before .before .before .before .before .before .sound .ensures) ∙ not-false _ (c .before .before .before .before .before .if1 .left)) .sized) in
-    toZ-pos w32 (omega (arith, c .depth-at .ensures, depth-bound (a .register .now) (c .before .before .place .given .0 .0), s .most)) ∙ ap pos (c .depth-at .ensures)
+    let s = sized→ (a .register .now) (parts-of (a .register .now) (sym
+    (c .before .before .before .before .before .before .sound .ensures) ∙ not-false _
+    (c .before .before .before .before .before .if1 .left)) .sized) in
+    toZ-pos w32 (omega (arith, c .depth-at .ensures, depth-bound (a .register .now) (c .before .before .place .given .0 .0), s .most)) ∙
+    ap pos (c .depth-at .ensures)
     ∙ ap (depthAs (a .register .now)) (sym (c .before .before .place .given .1))
-    ∙ depth-found (a .register .now) (a .identity) (sym (c .before .before .before .before .before .before .sound .ensures) ∙ not-false _ (c .before .before .before .before .before .if1 .left)) _ (c .before .before .before .before .find .ensures)
+    ∙ depth-found (a .register .now) (a .identity) (sym (c .before .before .before .before .before .before .sound .ensures) ∙ not-false
+    _ (c .before .before .before .before .before .if1 .left)) _ (c .before .before .before .before .find .ensures)
 
 pub depth-spec : {M : Type 1} → statement M
 depth-spec =

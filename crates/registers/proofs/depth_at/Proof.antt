@@ -1,7 +1,6 @@
 -- `depth_at` meets its contract. The loop's invariant: what is counted, and what is above among the lines from i on. Assumes nothing.
-use mathlib.Core.Path.{_≡_, sym, ap, _∙_}
-use mathlib.Core.Bool.{cond}
-use Prim.Native.Nat.{ℕ, _+_, _-_, _≤_}
+use mathlib.Core.Path.{_≡_}
+use Prim.Native.Nat.{_+_, _-_, _≤_}
 use native.Mathlib.Omega.{arith}
 use borrow.Author.Needs.{needs}
 use Rattle.registers.specs.Sound.{lineAt}
@@ -60,8 +59,14 @@ loop-again c =
     let l = c .before .before .before in
     let a = l .before .before .before .args in
     let b = a .register .now in
-    let e = depth-next b (a .place) (l .loop .i) (c .before .above .result) (omega (arith, l .loop .inv .1)) (c .before .above .ensures) in
-    (omega arith, l .loop .inv .1, omega (arith, c .one .ensures .1, l .loop .inv .2), omega (arith, c .one .ensures .0, l .loop .inv .3, e))
+    let e = depth-next b (a .place) (l .loop .i) (c .before .above .result) (omega (arith, l .loop .inv .1)) (c .before .above .ensures)
+    in (
+      omega arith,
+      l .loop .inv .1,
+      omega (arith, c .one .ensures .1, l .loop .inv .2),
+      omega
+          (arith, c .one .ensures .0, l .loop .inv .3, e),
+    )
 
 returns : tie.Need-returns Inv-loop μ-loop
 returns c =

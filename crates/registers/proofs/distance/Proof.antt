@@ -1,10 +1,8 @@
 -- `distance` meets its contract. Assumes nothing.
-use mathlib.Core.Path.{_≡_, sym, ap, _∙_, subst}
-use Prim.Native.Nat.{ℕ, _<_}
+use mathlib.Core.Path.{sym, ap, _∙_}
+use Prim.Native.Nat.{_<_}
 use native.Mathlib.Omega.{arith}
-use lib.IntN.{ℤ, pos}
 use mir.Syntax.{w32}
-use mir.Facts.{toZ-pos}
 use borrow.Author.Tests.{not-true, not-false}
 use Rattle.answers.proofs.SignedLaws.{read-back}
 use Rattle.registers.specs.declared.Found.the-variants.{At}
@@ -43,11 +41,13 @@ returns-2 : tie.Need-returns-2
 returns-2 c =
     let a = c .before .before .before .before .before .before .before .args in
     read-back w32 _ (c .signed2 .ok) ∙ c .signed2 .ensures
-    ∙ distance-none (a .register .now) (a .x) (a .y) (sym (c .before .before .before .before .before .sound .ensures) ∙ not-false _ (c .before .before .before .before .if1 .left)) (sym (c .before .enum-told .given .1) ∙ c .before .before .before .find .ensures)
+    ∙ distance-none (a .register .now) (a .x) (a .y) (sym (c .before .before .before .before .before .sound .ensures) ∙ not-false _
+    (c .before .before .before .before .if1 .left)) (sym (c .before .enum-told .given .1) ∙ c .before .before .before .find .ensures)
 
 find-requires-2 : tie.Need-find-requires-2
 find-requires-2 c κs =
-    parts-of (c .before .before .before .before .before .before .before .args .register .now) (sym (c .before .before .before .before .before .sound .ensures) ∙ not-false _ (c .before .before .before .before .if1 .left)) .sized
+    parts-of (c .before .before .before .before .before .before .before .args .register .now)
+    (sym (c .before .before .before .before .before .sound .ensures) ∙ not-false _ (c .before .before .before .before .if1 .left)) .sized
 
 enum-known-to : tie.Need-enum-known-to
 enum-known-to c = search needs
@@ -64,45 +64,78 @@ returns-3 c =
     read-back w32 _ (c .signed3 .ok) ∙ c .signed3 .ensures
     ∙ ap (distanceAs (At (c .before .before .before .before .before .from .given .0 .0))) (sym (c .before .enum-told2 .given .1))
     ∙ ap (λ f. distanceAs f (c .before .before .before .find2 .result)) (sym (c .before .before .before .before .before .from .given .1))
-    ∙ distance-found (a .register .now) (a .x) (a .y) (sym (c .before .before .before .before .before .before .before .before .before .sound .ensures) ∙ not-false _ (c .before .before .before .before .before .before .before .before .if1 .left)) _ _ (c .before .before .before .before .before .before .before .find .ensures) (c .before .before .before .find2 .ensures)
+    ∙ distance-found (a .register .now) (a .x) (a .y) (sym (c .before .before .before .before .before .before .before .before .before
+    .sound .ensures) ∙ not-false _ (c .before .before .before .before .before .before .before .before .if1 .left)) _ _
+    (c .before .before .before .before .before .before .before .find .ensures) (c .before .before .before .find2 .ensures)
 
 cast-result : tie.Need-cast-result
 cast-result c =
     let a = c .before .before .before .before .before .before .before .before .before .before .before .args in
     let b = a .register .now in
-    let s = sized→ b (parts-of b (sym (c .before .before .before .before .before .before .before .before .before .sound .ensures) ∙ not-false _ (c .before .before .before .before .before .before .before .before .if1 .left)) .sized) in
-    let i : c .before .before .before .before .before .from .given .0 .0 < 4096 = omega (arith, found-inside b (a .x) _ (sym (c .before .before .before .before .before .before .before .find .ensures) ∙ c .before .before .before .before .before .from .given .1), s .most) in
-    let j : c .before .to .given .0 .0 < 4096 = omega (arith, found-inside b (a .y) _ (sym (c .before .before .before .find2 .ensures) ∙ c .before .to .given .1), s .most) in
+    let s = sized→ b (parts-of b (sym (c .before .before .before .before .before .before .before .before .before .sound .ensures) ∙
+    not-false _ (c .before .before .before .before .before .before .before .before .if1 .left)) .sized) in
+    let i : c .before .before .before .before .before .from .given .0 .0 < 4096 = omega (
+      arith,
+      found-inside b (a .x) _ (sym (c .before .before .before .before .before .before .before .find .ensures) ∙ c .before
+          .before .before .before .before .from .given .1),
+      s .most,
+    ) in
+    let j : c .before .to .given .0 .0 < 4096 =
+    omega (arith, found-inside b (a .y) _ (sym (c .before .before .before .find2 .ensures) ∙ c .before .to .given .1), s .most) in
     record { sfits = omega (arith, j) }
 
 cast-result-2 : tie.Need-cast-result-2
 cast-result-2 c =
     let a = c .before .before .before .before .before .before .before .before .before .before .before .args in
     let b = a .register .now in
-    let s = sized→ b (parts-of b (sym (c .before .before .before .before .before .before .before .before .before .sound .ensures) ∙ not-false _ (c .before .before .before .before .before .before .before .before .if1 .left)) .sized) in
-    let i : c .before .before .before .before .before .from .given .0 .0 < 4096 = omega (arith, found-inside b (a .x) _ (sym (c .before .before .before .before .before .before .before .find .ensures) ∙ c .before .before .before .before .before .from .given .1), s .most) in
-    let j : c .before .to .given .0 .0 < 4096 = omega (arith, found-inside b (a .y) _ (sym (c .before .before .before .find2 .ensures) ∙ c .before .to .given .1), s .most) in
+    let s = sized→ b (parts-of b (sym (c .before .before .before .before .before .before .before .before .before .sound .ensures) ∙
+    not-false _ (c .before .before .before .before .before .before .before .before .if1 .left)) .sized) in
+    let i : c .before .before .before .before .before .from .given .0 .0 < 4096 = omega (
+      arith,
+      found-inside b (a .x) _ (sym (c .before .before .before .before .before .before .before .find .ensures) ∙ c .before
+          .before .before .before .before .from .given .1),
+      s .most,
+    ) in
+    let j : c .before .to .given .0 .0 < 4096 =
+    omega (arith, found-inside b (a .y) _ (sym (c .before .before .before .find2 .ensures) ∙ c .before .to .given .1), s .most) in
     record { sfits = omega (arith, i) }
 
 sub-result : tie.Need-sub-result
 sub-result c =
     let a = c .before .before .before .before .before .before .before .before .before .before .before .args in
     let b = a .register .now in
-    let s = sized→ b (parts-of b (sym (c .before .before .before .before .before .before .before .before .before .sound .ensures) ∙ not-false _ (c .before .before .before .before .before .before .before .before .if1 .left)) .sized) in
-    let i : c .before .before .before .before .before .from .given .0 .0 < 4096 = omega (arith, found-inside b (a .x) _ (sym (c .before .before .before .before .before .before .before .find .ensures) ∙ c .before .before .before .before .before .from .given .1), s .most) in
-    let j : c .before .to .given .0 .0 < 4096 = omega (arith, found-inside b (a .y) _ (sym (c .before .before .before .find2 .ensures) ∙ c .before .to .given .1), s .most) in
+    let s = sized→ b (parts-of b (sym (c .before .before .before .before .before .before .before .before .before .sound .ensures) ∙
+    not-false _ (c .before .before .before .before .before .before .before .before .if1 .left)) .sized) in
+    let i : c .before .before .before .before .before .from .given .0 .0 < 4096 = omega (
+      arith,
+      found-inside b (a .x) _ (sym (c .before .before .before .before .before .before .before .find .ensures) ∙ c .before
+          .before .before .before .before .from .given .1),
+      s .most,
+    ) in
+    let j : c .before .to .given .0 .0 < 4096 =
+    omega (arith, found-inside b (a .y) _ (sym (c .before .before .before .find2 .ensures) ∙ c .before .to .given .1), s .most) in
     difference-fits _ _ i j
 
 returns-4 : tie.Need-returns-4
 returns-4 c =
     let a = c .before .before .before .before .before .before .before .before .before .before .before .args in
     let b = a .register .now in
-    let s = sized→ b (parts-of b (sym (c .before .before .before .before .before .before .before .before .before .sound .ensures) ∙ not-false _ (c .before .before .before .before .before .before .before .before .if1 .left)) .sized) in
-    let i : c .before .before .before .before .before .from .given .0 .0 < 4096 = omega (arith, found-inside b (a .x) _ (sym (c .before .before .before .before .before .before .before .find .ensures) ∙ c .before .before .before .before .before .from .given .1), s .most) in
-    let j : c .before .to .given .0 .0 < 4096 = omega (arith, found-inside b (a .y) _ (sym (c .before .before .before .find2 .ensures) ∙ c .before .to .given .1), s .most) in
-    difference-is _ _ i j ∙ ap (distanceAs (At (c .before .before .before .before .before .from .given .0 .0))) (sym (c .before .to .given .1))
+    let s = sized→ b (parts-of b (sym (c .before .before .before .before .before .before .before .before .before .sound .ensures) ∙
+    not-false _ (c .before .before .before .before .before .before .before .before .if1 .left)) .sized) in
+    let i : c .before .before .before .before .before .from .given .0 .0 < 4096 = omega (
+      arith,
+      found-inside b (a .x) _ (sym (c .before .before .before .before .before .before .before .find .ensures) ∙ c .before
+          .before .before .before .before .from .given .1),
+      s .most,
+    ) in
+    let j : c .before .to .given .0 .0 < 4096 =
+    omega (arith, found-inside b (a .y) _ (sym (c .before .before .before .find2 .ensures) ∙ c .before .to .given .1), s .most) in
+    difference-is _ _ i j ∙ ap (distanceAs (At (c .before .before .before .before .before .from .given .0 .0)))
+    (sym (c .before .to .given .1))
     ∙ ap (λ f. distanceAs f (c .before .before .before .find2 .result)) (sym (c .before .before .before .before .before .from .given .1))
-    ∙ distance-found b (a .x) (a .y) (sym (c .before .before .before .before .before .before .before .before .before .sound .ensures) ∙ not-false _ (c .before .before .before .before .before .before .before .before .if1 .left)) _ _ (c .before .before .before .before .before .before .before .find .ensures) (c .before .before .before .find2 .ensures)
+    ∙ distance-found b (a .x) (a .y) (sym (c .before .before .before .before .before .before .before .before .before .sound .ensures) ∙
+    not-false _ (c .before .before .before .before .before .before .before .before .if1 .left)) _ _
+    (c .before .before .before .before .before .before .before .find .ensures) (c .before .before .before .find2 .ensures)
 
 pub distance-spec : {M : Type 1} → statement M
 distance-spec =

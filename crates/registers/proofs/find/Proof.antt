@@ -1,6 +1,6 @@
 -- `find` meets its contract. The loop's invariant: what is looked for from 0 on is looked for from i on. Assumes nothing.
-use mathlib.Core.Path.{_≡_, refl, sym, ap, _∙_}
-use Prim.Native.Nat.{ℕ, _-_, _≤_}
+use mathlib.Core.Path.{_≡_, sym, _∙_}
+use Prim.Native.Nat.{_-_, _≤_}
 use native.Mathlib.Omega.{arith}
 use Rattle.registers.specs.Questions.{countOf, foundIn}
 use Rattle.registers.proofs.SoundLaws.{has-place}
@@ -27,13 +27,16 @@ loop-holds c =
 identity-requires : tie.Need-identity-requires Inv-loop μ-loop
 identity-requires c κs =
     let a = c .before .before .before .before in
-    has-place (a .args .register .now) (countOf (a .args .register .now)) _ (sized-entries _ (sized→ (c .before .before .before .before .args .register .now) (c .before .before .before .before .pre))) (omega (arith, c .before .loop .inv .1))
+    has-place (a .args .register .now) (countOf (a .args .register .now)) _
+    (sized-entries _ (sized→ (c .before .before .before .before .args .register .now) (c .before .before .before .before .pre)))
+    (omega (arith, c .before .loop .inv .1))
 
 returns : tie.Need-returns Inv-loop μ-loop
 returns c =
     let l = c .before .before .before in
     let a = l .before .before .before .args in
-    found-here (a .register .now) (a .x) (l .loop .i) (omega (arith, l .loop .inv .1)) (sym (c .before .identity .ensures) ∙ c .if1 .taken)
+    found-here (a .register .now) (a .x) (l .loop .i) (omega (arith, l .loop .inv .1))
+    (sym (c .before .identity .ensures) ∙ c .if1 .taken)
     ∙ sym (l .loop .inv .2)
 
 add-i : tie.Need-add-i Inv-loop μ-loop
@@ -51,7 +54,8 @@ loop-again c =
       omega arith,
       l .loop .inv .1,
       l .loop .inv .2
-          ∙ found-later (a .register .now) (a .x) (l .loop .i) (omega (arith, l .loop .inv .1)) (λ z. c .if1 .left (c .before .identity .ensures ∙ z)),
+          ∙ found-later (a .register .now) (a .x) (l .loop .i) (omega (arith, l .loop .inv .1))
+          (λ z. c .if1 .left (c .before .identity .ensures ∙ z)),
     )
 
 returns-2 : tie.Need-returns-2 Inv-loop μ-loop

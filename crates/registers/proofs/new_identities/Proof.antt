@@ -1,6 +1,5 @@
 -- `new_identities` meets its contract. The loop's invariant: the first i numbers are the identities of the first i lines. Assumes nothing.
 use mathlib.Core.Path.{_≡_, refl, sym, ap, _∙_}
-use mathlib.Core.List.{List}
 use Prim.Native.Nat.{ℕ, _-_, _≤_}
 use native.Mathlib.Omega.{arith}
 use lib.ListN.{length, take, length-set, length-replicate}
@@ -51,7 +50,8 @@ loop-again c =
     let a = l .before .before in (
       omega arith,
       simp length-set (l .loop .inv .1),
-      identity-next (a .args .register .now) (l .loop .all) (l .loop .i) _ (omega (arith, a .pre .0, l .loop .inv .1)) (c .identity .ensures) (l .loop .inv .2),
+      identity-next (a .args .register .now) (l .loop .all) (l .loop .i) _ (omega (arith, a .pre .0, l .loop .inv .1))
+          (c .identity .ensures) (l .loop .inv .2),
     )
 
 slice-aggregate-all-new : tie.Need-slice-aggregate-all-new Inv-loop μ-loop

@@ -1,5 +1,5 @@
 -- `place` meets its contract. Assumes nothing.
-use mathlib.Core.Path.{_≡_, sym, ap, _∙_}
+use mathlib.Core.Path.{sym, ap, _∙_}
 use borrow.Author.Tests.{not-true, not-false}
 use Rattle.registers.specs.Questions.{placeAs}
 use Rattle.registers.proofs.QuestionLaws.{parts-of, place-unsound, place-found}
@@ -28,12 +28,16 @@ enum-told c = search needs
 returns-2 : tie.Need-returns-2
 returns-2 c =
     let a = c .before .before .before .before .before .before .args in
-    ap placeAs (sym (c .enum-told .given .1)) ∙ place-found (a .register .now) (a .identity) (sym (c .before .before .before .before .sound .ensures) ∙ not-false _ (c .before .before .before .if1 .left)) _ (c .before .before .find .ensures)
+    ap placeAs (sym (c .enum-told .given .1)) ∙ place-found (a .register .now) (a .identity)
+    (sym (c .before .before .before .before .sound .ensures) ∙ not-false _ (c .before .before .before .if1 .left)) _
+    (c .before .before .find .ensures)
 
 returns-3 : tie.Need-returns-3
 returns-3 c =
     let a = c .before .before .before .before .before .before .before .args in
-    ap placeAs (sym (c .before .place .given .1)) ∙ place-found (a .register .now) (a .identity) (sym (c .before .before .before .before .before .sound .ensures) ∙ not-false _ (c .before .before .before .before .if1 .left)) _ (c .before .before .before .find .ensures)
+    ap placeAs (sym (c .before .place .given .1)) ∙ place-found (a .register .now) (a .identity)
+    (sym (c .before .before .before .before .before .sound .ensures) ∙ not-false _ (c .before .before .before .before .if1 .left)) _
+    (c .before .before .before .find .ensures)
 
 pub place-spec : {M : Type 1} → statement M
 place-spec =

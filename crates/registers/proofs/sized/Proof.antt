@@ -1,6 +1,6 @@
 -- `sized` meets its contract, test by test. Assumes nothing.
-use mathlib.Core.Path.{_≡_, ap, _∙_}
-use Prim.Native.Nat.{ℕ, _≤_, _<_}
+use mathlib.Core.Path.{ap, _∙_}
+use Prim.Native.Nat.{ℕ}
 use native.Mathlib.Omega.{arith}
 use lib.Dec.{eqb}
 use Rattle.registers.proofs.QuestionLaws.{no-header, no-count, much-count, no-room, by-zero}
@@ -21,14 +21,16 @@ returns-2 c =
 
 returns-3 : tie.Need-returns-3
 returns-3 c =
-    much-count (c .before .before .before .before .before .args .register .now) (omega arith) (omega (arith, c .before .before .count .ensures)) (omega (arith, c .before .before .count .ensures))
+    much-count (c .before .before .before .before .before .args .register .now) (omega arith)
+    (omega (arith, c .before .before .count .ensures)) (omega (arith, c .before .before .count .ensures))
 
 entry-place-requires : tie.Need-entry-place-requires
 entry-place-requires c κs = search needs
 
 returns-4 : tie.Need-returns-4
 returns-4 c =
-    no-room (c .before .before .before .before .before .before .before .args .register .now) (omega arith) (omega (arith, c .before .before .before .before .count .ensures)) (omega (arith, c .before .before .before .before .count .ensures))
+    no-room (c .before .before .before .before .before .before .before .args .register .now) (omega arith)
+    (omega (arith, c .before .before .before .before .count .ensures)) (omega (arith, c .before .before .before .before .count .ensures))
     (omega (arith, c .before .before .before .before .count .ensures, c .before .entry-place .ensures))
 
 read-u32-requires : tie.Need-read-u32-requires
@@ -37,7 +39,9 @@ read-u32-requires c κs = search needs
 returns-5 : tie.Need-returns-5
 returns-5 c =
     ap (λ (x : ℕ). eqb x 0) (c .read-u32 .ensures)
-    ∙ by-zero (c .before .before .before .before .before .before .before .before .args .register .now) (omega arith) (omega (arith, c .before .before .before .before .before .count .ensures)) (omega (arith, c .before .before .before .before .before .count .ensures))
+    ∙ by-zero (c .before .before .before .before .before .before .before .before .args .register .now) (omega arith)
+    (omega (arith, c .before .before .before .before .before .count .ensures))
+    (omega (arith, c .before .before .before .before .before .count .ensures))
     (omega (arith, c .before .before .before .before .before .count .ensures, c .before .before .entry-place .ensures))
 
 pub sized-spec : {M : Type 1} → statement M

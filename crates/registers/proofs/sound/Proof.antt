@@ -1,7 +1,6 @@
 -- `sound` meets its contract, part by part. Assumes nothing.
-use mathlib.Core.Path.{_≡_, sym, ap, _∙_, subst}
-use mathlib.Core.Bool.{Bool, true, false}
-use Prim.Native.Nat.{ℕ, _<_}
+use mathlib.Core.Path.{sym, ap, _∙_, subst}
+use Prim.Native.Nat.{ℕ}
 use native.Mathlib.Omega.{arith}
 use borrow.Author.Tests.{not-true, not-false}
 use Rattle.identities.specs.Rows.{allNew?}
@@ -26,14 +25,16 @@ count-requires c κs =
 new-identities-requires : tie.Need-new-identities-requires
 new-identities-requires c κs =
     let b = c .before .before .before .before .args .register .now in
-    subst (HasEntries b) (sym (c .count .ensures)) (sized-entries b (sized→ b (sym (c .before .before .sized .ensures) ∙ not-false _ (c .before .if1 .left))))
+    subst (HasEntries b) (sym (c .count .ensures)) (sized-entries b (sized→ b
+    (sym (c .before .before .sized .ensures) ∙ not-false _ (c .before .if1 .left))))
 
 returns-2 : tie.Need-returns-2
 returns-2 c =
     let n = c .before in
     let b = n .before .before .before .before .before .args .register .now in
     not-new b (sym (n .before .before .before .sized .ensures) ∙ not-false _ (n .before .before .if1 .left))
-    (sym (n .new-identities .ensures ∙ ap (λ (k : ℕ). allNew? (identities (linesFrom b 0 k))) (n .before .count .ensures)) ∙ not-true _ (c .if2 .taken))
+    (sym (n .new-identities .ensures ∙ ap (λ (k : ℕ). allNew? (identities (linesFrom b 0 k))) (n .before .count .ensures)) ∙ not-true _
+    (c .if2 .taken))
 
 tree-requires : tie.Need-tree-requires
 tree-requires c κs =
@@ -48,7 +49,8 @@ returns-3 c =
     let b = n .before .before .before .before .before .args .register .now in
     c .tree .ensures ∙ ap (tree? b) (n .before .count .ensures)
     ∙ by-tree b (sym (n .before .before .before .sized .ensures) ∙ not-false _ (n .before .before .if1 .left))
-    (sym (n .new-identities .ensures ∙ ap (λ (k : ℕ). allNew? (identities (linesFrom b 0 k))) (n .before .count .ensures)) ∙ not-false _ (c .before .if2 .left))
+    (sym (n .new-identities .ensures ∙ ap (λ (k : ℕ). allNew? (identities (linesFrom b 0 k))) (n .before .count .ensures)) ∙ not-false _
+    (c .before .if2 .left))
 
 pub sound-spec : {M : Type 1} → statement M
 sound-spec =

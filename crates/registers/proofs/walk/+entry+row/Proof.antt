@@ -50,7 +50,8 @@ row-below t = and 1 row-kinds.ps (falls 1 row-kinds.ps _<_ μ-row t) row.Pre
 abbrev row-Inv-loop : row-lts.InvT-loop
 row-Inv-loop register n at parent depth low₀ i₀ low i =
     (at ≤ i) × (i ≤ n) × CodeAt register low
-    × (childrenFrom register n parent depth (codeAt register (startPlace parent)) at ≡ childrenFrom register n parent depth (codeAt register low) i)
+    × (childrenFrom register n parent depth (codeAt register (startPlace parent)) at ≡ childrenFrom register n parent depth
+    (codeAt register low) i)
 
 abbrev row-μ-loop : row-lts.MeasureT-loop
 row-μ-loop register n at parent depth low₀ i₀ low i = n - i
@@ -69,8 +70,13 @@ pub +entry+row-spec : {M : Type 1} → statement M
     entry-deep (a .register .now) (a .n) (a .parent) (a .depth) (codeAt (a .register .now) (a .low)) (a .at) (c .if1 .taken))
     (λ c κs.
     let a = c .before .before in
-    let b = a .args .register .now in
-    (has-place b _ _ (a .pre .1 .0) (a .pre .1 .1 .0 .0), (a .pre .1 .1 .0 .1, (has-place b _ _ (a .pre .1 .0) (a .pre .1 .1 .1 .0 .0), (a .pre .1 .1 .1 .0 .1, a .pre .1 .1 .1 .1)))))
+    let b = a .args .register .now in (
+      has-place b _ _ (a .pre .1 .0) (a .pre .1 .1 .0 .0),
+      (
+        a .pre .1 .1 .0 .1,
+        (has-place b _ _ (a .pre .1 .0) (a .pre .1 .1 .1 .0 .0), (a .pre .1 .1 .1 .0 .1, a .pre .1 .1 .1 .1)),
+      ),
+    ))
     (λ c.
     let a = c .before .before .before .before in
     omega (arith, a .pre .1 .1 .0 .0))
@@ -82,13 +88,19 @@ pub +entry+row-spec : {M : Type 1} → statement M
     (λ c.
     let p = c .before .before in
     let a = p .before .before .before in
-    c .row .ensures ∙ entry-on (a .args .register .now) (a .args .n) (a .args .parent) (a .args .depth) (codeAt (a .args .register .now) (a .args .low)) (a .args .at)
-    (has-place (a .args .register .now) (a .args .n) (a .args .at) (a .pre .1 .0) (a .pre .1 .1 .0 .0)) (a .pre .1 .1 .0 .1) (label-codes (a .args .register .now) (a .args .n) _ (a .pre .1 .0) (a .pre .1 .1 .1 .0) .end-code) (omega arith) (sym (p .in-place .ensures) ∙ c .before .if2 .taken))
+    c .row .ensures ∙ entry-on (a .args .register .now) (a .args .n) (a .args .parent) (a .args .depth)
+    (codeAt (a .args .register .now) (a .args .low)) (a .args .at)
+    (has-place (a .args .register .now) (a .args .n) (a .args .at) (a .pre .1 .0) (a .pre .1 .1 .0 .0)) (a .pre .1 .1 .0 .1)
+    (label-codes (a .args .register .now) (a .args .n) _ (a .pre .1 .0) (a .pre .1 .1 .1 .0) .end-code) (omega arith)
+    (sym (p .in-place .ensures) ∙ c .before .if2 .taken))
     (λ c.
     let p = c .before in
     let a = p .before .before .before in
-    entry-no (a .args .register .now) (a .args .n) (a .args .parent) (a .args .depth) (codeAt (a .args .register .now) (a .args .low)) (a .args .at)
-    (has-place (a .args .register .now) (a .args .n) (a .args .at) (a .pre .1 .0) (a .pre .1 .1 .0 .0)) (a .pre .1 .1 .0 .1) (label-codes (a .args .register .now) (a .args .n) _ (a .pre .1 .0) (a .pre .1 .1 .1 .0) .end-code) (omega arith) (sym (p .in-place .ensures) ∙ c .if2 .left)))
+    entry-no (a .args .register .now) (a .args .n) (a .args .parent) (a .args .depth) (codeAt (a .args .register .now) (a .args .low))
+    (a .args .at)
+    (has-place (a .args .register .now) (a .args .n) (a .args .at) (a .pre .1 .0) (a .pre .1 .1 .0 .0)) (a .pre .1 .1 .0 .1)
+    (label-codes (a .args .register .now) (a .args .n) _ (a .pre .1 .0) (a .pre .1 .1 .1 .0) .end-code) (omega arith)
+    (sym (p .in-place .ensures) ∙ c .if2 .left)))
     (λ t. row-lts.spec (
       start-place-reads.Asked,
       start-place-reads.Learnt,
@@ -123,7 +135,8 @@ pub +entry+row-spec : {M : Type 1} → statement M
     (λ c.
     let l = c .before .before .before in
     let a = l .before .before .before in
-    row-blank (a .args .register .now) (a .args .n) _ _ _ _ (l .loop .i) (c .before .before .loop-test .taken) (label-codes (a .args .register .now) (a .args .n) _ (a .pre .1 .0) (a .pre .1 .1 .0) .end-code)
+    row-blank (a .args .register .now) (a .args .n) _ _ _ _ (l .loop .i) (c .before .before .loop-test .taken)
+    (label-codes (a .args .register .now) (a .args .n) _ (a .pre .1 .0) (a .pre .1 .1 .0) .end-code)
     (sym (c .before .sound-label .ensures) ∙ not-true _ (c .if1 .taken)) ∙ sym (l .loop .inv .3))
     (λ c κs.
     let a = c .before .before .before .before .before .before in
@@ -136,8 +149,10 @@ pub +entry+row-spec : {M : Type 1} → statement M
     let s = c .before .before .before in
     let b = a .args .register .now in (
       subst (CodeAt b) (sym (c .before .start-place2 .ensures))
-          (label-codes (a .args .register .now) (a .args .n) _ (a .pre .1 .0) (s .before .loop-test .taken, sym (s .sound-label .ensures) ∙ not-false _ (c .before .before .if1 .left)) .start-at),
-      subst (CodeAt b) (sym (c .end-place .ensures)) (label-codes (a .args .register .now) (a .args .n) _ (a .pre .1 .0) (a .pre .1 .1 .0) .end-at),
+          (label-codes (a .args .register .now) (a .args .n) _ (a .pre .1 .0)
+          (s .before .loop-test .taken, sym (s .sound-label .ensures) ∙ not-false _ (c .before .before .if1 .left)) .start-at),
+      subst (CodeAt b) (sym (c .end-place .ensures)) (label-codes (a .args .register .now) (a .args .n) _ (a .pre .1 .0)
+          (a .pre .1 .1 .0) .end-at),
     ))
     (λ c.
     let g = c .before in
@@ -147,9 +162,11 @@ pub +entry+row-spec : {M : Type 1} → statement M
     let b = a .args .register .now in
     let ok : soundLabel? b (l .loop .i) ≡ true = sym (s .sound-label .ensures) ∙ not-false _ (g .before .before .before .if1 .left) in
     let low : g .fields-below .result ≡ below? (codeAt b (startPlace (l .loop .i))) (codeAt b (endPlace (a .args .parent))) =
-    g .fields-below .ensures ∙ ap (λ (k : ℕ). below? (codeAt b k) (codeAt b (g .before .end-place .result))) (g .before .before .start-place2 .ensures)
+    g .fields-below .ensures ∙ ap (λ (k : ℕ). below? (codeAt b k) (codeAt b (g .before .end-place .result)))
+    (g .before .before .start-place2 .ensures)
     ∙ ap (λ (k : ℕ). below? (codeAt b (startPlace (l .loop .i))) (codeAt b k)) (g .before .end-place .ensures) in
-    row-stops b (a .args .n) _ _ _ _ (l .loop .i) (s .before .loop-test .taken) (label-codes (a .args .register .now) (a .args .n) _ (a .pre .1 .0) (a .pre .1 .1 .0) .end-code) ok
+    row-stops b (a .args .n) _ _ _ _ (l .loop .i) (s .before .loop-test .taken)
+    (label-codes (a .args .register .now) (a .args .n) _ (a .pre .1 .0) (a .pre .1 .1 .0) .end-code) ok
     (sym low ∙ not-true _ (c .if2 .taken)) ∙ sym (l .loop .inv .3))
     (λ c κs.
     let g = c .before in
@@ -159,9 +176,15 @@ pub +entry+row-spec : {M : Type 1} → statement M
     let b = a .args .register .now in
     let ok : soundLabel? b (l .loop .i) ≡ true = sym (s .sound-label .ensures) ∙ not-false _ (g .before .before .before .if1 .left) in
     let low : g .fields-below .result ≡ below? (codeAt b (startPlace (l .loop .i))) (codeAt b (endPlace (a .args .parent))) =
-    g .fields-below .ensures ∙ ap (λ (k : ℕ). below? (codeAt b k) (codeAt b (g .before .end-place .result))) (g .before .before .start-place2 .ensures)
-    ∙ ap (λ (k : ℕ). below? (codeAt b (startPlace (l .loop .i))) (codeAt b k)) (g .before .end-place .ensures) in
-    (omega (arith, s .before .loop-test .taken, l .loop .inv .0), (a .pre .1 .0, ((s .before .loop-test .taken, ok), (a .pre .1 .1 .0, l .loop .inv .2)))))
+    g .fields-below .ensures ∙ ap (λ (k : ℕ). below? (codeAt b k) (codeAt b (g .before .end-place .result)))
+    (g .before .before .start-place2 .ensures)
+    ∙ ap (λ (k : ℕ). below? (codeAt b (startPlace (l .loop .i))) (codeAt b k)) (g .before .end-place .ensures) in (
+      omega (arith, s .before .loop-test .taken, l .loop .inv .0),
+      (
+        a .pre .1 .0,
+        ((s .before .loop-test .taken, ok), (a .pre .1 .1 .0, l .loop .inv .2)),
+      ),
+    ))
     (λ c. search needs)
     (λ c κs.
     let a = c .before .before .before .before .before .before .before .before .before .before .before .before .before .before in
@@ -174,11 +197,13 @@ pub +entry+row-spec : {M : Type 1} → statement M
     let b = a .args .register .now in
     let ok : soundLabel? b (l .loop .i) ≡ true = sym (s .sound-label .ensures) ∙ not-false _ (g .before .before .before .if1 .left) in
     let low : g .fields-below .result ≡ below? (codeAt b (startPlace (l .loop .i))) (codeAt b (endPlace (a .args .parent))) =
-    g .fields-below .ensures ∙ ap (λ (k : ℕ). below? (codeAt b k) (codeAt b (g .before .end-place .result))) (g .before .before .start-place2 .ensures)
+    g .fields-below .ensures ∙ ap (λ (k : ℕ). below? (codeAt b k) (codeAt b (g .before .end-place .result)))
+    (g .before .before .start-place2 .ensures)
     ∙ ap (λ (k : ℕ). below? (codeAt b (startPlace (l .loop .i))) (codeAt b k)) (g .before .end-place .ensures) in
     let n = c .before .before in
     let w = row-to b (a .args .n) (a .args .parent) (a .args .depth) (codeAt b (l .loop .low)) (l .loop .i) (s .before .loop-test .taken)
-    (label-codes (a .args .register .now) (a .args .n) _ (a .pre .1 .0) (a .pre .1 .1 .0) .end-code) ok (sym low ∙ not-false _ (n .before .before .before .if2 .left)) _ (sym (n .before .before .entry .ensures) ∙ n .next .given .1) in
+    (label-codes (a .args .register .now) (a .args .n) _ (a .pre .1 .0) (a .pre .1 .1 .0) .end-code) ok
+    (sym low ∙ not-false _ (n .before .before .before .if2 .left)) _ (sym (n .before .before .entry .ensures) ∙ n .next .given .1) in
     omega (arith, w .later, w .inside))
     (λ c.
     let g = c .before .before .before .before .before .before in
@@ -188,15 +213,19 @@ pub +entry+row-spec : {M : Type 1} → statement M
     let b = a .args .register .now in
     let ok : soundLabel? b (l .loop .i) ≡ true = sym (s .sound-label .ensures) ∙ not-false _ (g .before .before .before .if1 .left) in
     let low : g .fields-below .result ≡ below? (codeAt b (startPlace (l .loop .i))) (codeAt b (endPlace (a .args .parent))) =
-    g .fields-below .ensures ∙ ap (λ (k : ℕ). below? (codeAt b k) (codeAt b (g .before .end-place .result))) (g .before .before .start-place2 .ensures)
+    g .fields-below .ensures ∙ ap (λ (k : ℕ). below? (codeAt b k) (codeAt b (g .before .end-place .result)))
+    (g .before .before .start-place2 .ensures)
     ∙ ap (λ (k : ℕ). below? (codeAt b (startPlace (l .loop .i))) (codeAt b k)) (g .before .end-place .ensures) in
     let n = c .before .before in
     let w = row-to b (a .args .n) (a .args .parent) (a .args .depth) (codeAt b (l .loop .low)) (l .loop .i) (s .before .loop-test .taken)
-    (label-codes (a .args .register .now) (a .args .n) _ (a .pre .1 .0) (a .pre .1 .1 .0) .end-code) ok (sym low ∙ not-false _ (n .before .before .before .if2 .left)) _ (sym (n .before .before .entry .ensures) ∙ n .next .given .1) in (
+    (label-codes (a .args .register .now) (a .args .n) _ (a .pre .1 .0) (a .pre .1 .1 .0) .end-code) ok
+    (sym low ∙ not-false _ (n .before .before .before .if2 .left)) _ (sym (n .before .before .entry .ensures) ∙ n .next .given .1) in (
       omega (arith, w .later, l .loop .inv .0),
       w .inside,
-      subst (CodeAt b) (sym (c .end-place2 .ensures)) (label-codes (a .args .register .now) (a .args .n) _ (a .pre .1 .0) (s .before .loop-test .taken, ok) .end-at),
-      l .loop .inv .3 ∙ w .same ∙ ap (λ (k : ℕ). childrenFrom b (a .args .n) (a .args .parent) (a .args .depth) (codeAt b k) (n .next .given .0 .0)) (sym (c .end-place2 .ensures)),
+      subst (CodeAt b) (sym (c .end-place2 .ensures)) (label-codes (a .args .register .now) (a .args .n) _ (a .pre .1 .0)
+          (s .before .loop-test .taken, ok) .end-at),
+      l .loop .inv .3 ∙ w .same ∙ ap (λ (k : ℕ). childrenFrom b (a .args .n) (a .args .parent) (a .args .depth) (codeAt b k)
+          (n .next .given .0 .0)) (sym (c .end-place2 .ensures)),
     ))
     (λ c. search needs)
     (λ c.
@@ -207,14 +236,18 @@ pub +entry+row-spec : {M : Type 1} → statement M
     let b = a .args .register .now in
     let ok : soundLabel? b (l .loop .i) ≡ true = sym (s .sound-label .ensures) ∙ not-false _ (g .before .before .before .if1 .left) in
     let low : g .fields-below .result ≡ below? (codeAt b (startPlace (l .loop .i))) (codeAt b (endPlace (a .args .parent))) =
-    g .fields-below .ensures ∙ ap (λ (k : ℕ). below? (codeAt b k) (codeAt b (g .before .end-place .result))) (g .before .before .start-place2 .ensures)
+    g .fields-below .ensures ∙ ap (λ (k : ℕ). below? (codeAt b k) (codeAt b (g .before .end-place .result)))
+    (g .before .before .start-place2 .ensures)
     ∙ ap (λ (k : ℕ). below? (codeAt b (startPlace (l .loop .i))) (codeAt b k)) (g .before .end-place .ensures) in
-    sym (l .loop .inv .3 ∙ row-un b (a .args .n) (a .args .parent) (a .args .depth) (codeAt b (l .loop .low)) (l .loop .i) (s .before .loop-test .taken)
-    (label-codes (a .args .register .now) (a .args .n) _ (a .pre .1 .0) (a .pre .1 .1 .0) .end-code) ok (sym low ∙ not-false _ (c .before .before .before .if2 .left)) (sym (c .before .before .entry .ensures) ∙ c .enum-told .given .1)))
+    sym (l .loop .inv .3 ∙ row-un b (a .args .n) (a .args .parent) (a .args .depth) (codeAt b (l .loop .low)) (l .loop .i)
+    (s .before .loop-test .taken)
+    (label-codes (a .args .register .now) (a .args .n) _ (a .pre .1 .0) (a .pre .1 .1 .0) .end-code) ok
+    (sym low ∙ not-false _ (c .before .before .before .if2 .left)) (sym (c .before .before .entry .ensures) ∙ c .enum-told .given .1)))
     (λ c.
     let l = c .before in
     let a = l .before .before .before in
     let b = a .args .register .now in
     let e : l .loop .i ≡ a .args .n = omega (arith, c .loop-test .left, l .loop .inv .1) in
-    ap To e ∙ row-past b (a .args .n) _ _ _ _ ∙ ap (λ (k : ℕ). childrenFrom b (a .args .n) (a .args .parent) (a .args .depth) (codeAt b (l .loop .low)) k) (sym e)
+    ap To e ∙ row-past b (a .args .n) _ _ _ _ ∙ ap (λ (k : ℕ). childrenFrom b (a .args .n) (a .args .parent) (a .args .depth)
+    (codeAt b (l .loop .low)) k) (sym e)
     ∙ sym (l .loop .inv .3)))

@@ -45,12 +45,15 @@ returns c =
     let a = f .before .before .before .before in
     let b = a .args .register .now in
     let first : f .fields-below .result ≡ below? (codeAt b (startPlace (a .args .i))) (codeAt b (startPlace (a .args .j))) =
-    f .fields-below .ensures ∙ ap (λ (k : ℕ). below? (codeAt b k) (codeAt b (f .before .start-place2 .result))) (f .before .before .start-place .ensures)
+    f .fields-below .ensures ∙ ap (λ (k : ℕ). below? (codeAt b k) (codeAt b (f .before .start-place2 .result)))
+    (f .before .before .start-place .ensures)
     ∙ ap (λ (k : ℕ). below? (codeAt b (startPlace (a .args .i))) (codeAt b k)) (f .before .start-place2 .ensures) in
     let second : c .fields-below2 .result ≡ below? (codeAt b (endPlace (a .args .j))) (codeAt b (endPlace (a .args .i))) =
-    c .fields-below2 .ensures ∙ ap (λ (k : ℕ). below? (codeAt b k) (codeAt b (c .before .end-place2 .result))) (c .before .before .end-place .ensures)
+    c .fields-below2 .ensures ∙ ap (λ (k : ℕ). below? (codeAt b k) (codeAt b (c .before .end-place2 .result)))
+    (c .before .before .end-place .ensures)
     ∙ ap (λ (k : ℕ). below? (codeAt b (endPlace (a .args .j))) (codeAt b k)) (c .before .end-place2 .ensures) in
-    both-are _ _ _ (sym first ∙ c .before .before .before .if1 .taken) second ∙ sym (above-is b (a .args .i) (a .args .j) (a .pre .1 .0) (a .pre .1 .1))
+    both-are _ _ _ (sym first ∙ c .before .before .before .if1 .taken) second ∙ sym
+    (above-is b (a .args .i) (a .args .j) (a .pre .1 .0) (a .pre .1 .1))
 
 returns-2 : tie.Need-returns-2
 returns-2 c =
@@ -58,7 +61,8 @@ returns-2 c =
     let a = f .before .before .before .before in
     let b = a .args .register .now in
     let first : f .fields-below .result ≡ below? (codeAt b (startPlace (a .args .i))) (codeAt b (startPlace (a .args .j))) =
-    f .fields-below .ensures ∙ ap (λ (k : ℕ). below? (codeAt b k) (codeAt b (f .before .start-place2 .result))) (f .before .before .start-place .ensures)
+    f .fields-below .ensures ∙ ap (λ (k : ℕ). below? (codeAt b k) (codeAt b (f .before .start-place2 .result)))
+    (f .before .before .start-place .ensures)
     ∙ ap (λ (k : ℕ). below? (codeAt b (startPlace (a .args .i))) (codeAt b k)) (f .before .start-place2 .ensures) in
     first-fails _ _ (sym first ∙ c .if1 .left) ∙ sym (above-is b (a .args .i) (a .args .j) (a .pre .1 .0) (a .pre .1 .1))
 

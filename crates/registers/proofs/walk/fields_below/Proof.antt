@@ -20,7 +20,8 @@ returns c =
     let f = g .before in
     let a = f .before .before in
     c .below .ensures
-    ∙ codes-below (a .args .register .now) _ _ (a .args .x) (a .args .y) (a .pre .0) (a .pre .1) (f .field .ensures .0) (g .field2 .ensures .0)
+    ∙ codes-below (a .args .register .now) _ _ (a .args .x) (a .args .y) (a .pre .0) (a .pre .1) (f .field .ensures .0)
+    (g .field2 .ensures .0)
 
 pub fields-below-spec : {M : Type 1} → statement M
 fields-below-spec = tie.close (tie.spec field-requires field-requires-2 below-requires returns)

@@ -22,7 +22,8 @@ returns c =
     let f = g .before in
     let a = f .before .before in
     c .same .ensures
-    ∙ sides-same (a .args .register .now) _ _ (a .args .x) (a .args .y) (a .pre .0) (a .pre .1) (f .field .ensures .0) (g .field2 .ensures .0)
+    ∙ sides-same (a .args .register .now) _ _ (a .args .x) (a .args .y) (a .pre .0) (a .pre .1) (f .field .ensures .0)
+    (g .field2 .ensures .0)
 
 pub fields-same-spec : {M : Type 1} → statement M
 fields-same-spec = tie.close (tie.spec field-requires field-requires-2 same-requires returns)

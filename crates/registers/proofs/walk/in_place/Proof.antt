@@ -1,6 +1,5 @@
 -- `in_place` meets its contract: three tests in a row, on fields of sound labels. Assumes nothing.
 use mathlib.Core.Path.{_≡_, sym, ap, _∙_, subst}
-use mathlib.Core.Bool.{true}
 use Prim.Native.Nat.{ℕ}
 use Rattle.digits.specs.Order.{below?}
 use Rattle.codes.specs.Reading.{same?}
@@ -48,8 +47,11 @@ fields-same-requires c κs =
     let a = c .before .before .before .before .before .before .before .before .before .before in
     let b = a .args .register .now in
     let u = sound-at b (a .args .at) (a .pre .0) (a .pre .1 .0) in
-    let p = sound-at b (a .args .parent) (a .pre .1 .1 .0) (a .pre .1 .1 .1 .0) in
-    (subst (SideAt b) (sym (c .before .parent-place .ensures)) (u .parent-side), subst (SideAt b) (sym (c .start-place2 .ensures)) (p .start-side))
+    let p = sound-at b (a .args .parent) (a .pre .1 .1 .0) (a .pre .1 .1 .1 .0) in (
+      subst (SideAt b) (sym (c .before .parent-place .ensures)) (u .parent-side),
+      subst (SideAt b) (sym (c .start-place2 .ensures))
+          (p .start-side),
+    )
 
 returns : tie.Need-returns
 returns c =
@@ -60,10 +62,12 @@ returns c =
     let first : below? (codeAt b (a .args .low)) (codeAt b (startPlace (a .args .at))) ≡ _ =
     sym (f .fields-below .ensures ∙ ap (λ (k : ℕ). below? (codeAt b (a .args .low)) (codeAt b k)) (f .before .start-place .ensures)) in
     let second : below? (codeAt b (endPlace (a .args .at))) (codeAt b (endPlace (a .args .parent))) ≡ _ =
-    sym (g .fields-below2 .ensures ∙ ap (λ (k : ℕ). below? (codeAt b k) (codeAt b (g .before .end-place2 .result))) (g .before .before .end-place .ensures)
+    sym (g .fields-below2 .ensures ∙ ap (λ (k : ℕ). below? (codeAt b k) (codeAt b (g .before .end-place2 .result)))
+    (g .before .before .end-place .ensures)
     ∙ ap (λ (k : ℕ). below? (codeAt b (endPlace (a .args .at))) (codeAt b k)) (g .before .end-place2 .ensures)) in
     all-three _ _ _ _ (first ∙ g .before .before .before .if1 .taken) (second ∙ c .before .before .before .if2 .taken)
-    (c .fields-same .ensures ∙ ap (λ (k : ℕ). same? (codeAt b k) (codeAt b (c .before .start-place2 .result))) (c .before .before .parent-place .ensures)
+    (c .fields-same .ensures ∙ ap (λ (k : ℕ). same? (codeAt b k) (codeAt b (c .before .start-place2 .result)))
+    (c .before .before .parent-place .ensures)
     ∙ ap (λ (k : ℕ). same? (codeAt b (parentPlace (a .args .at))) (codeAt b k)) (c .before .start-place2 .ensures))
 
 returns-2 : tie.Need-returns-2
@@ -75,7 +79,8 @@ returns-2 c =
     let first : below? (codeAt b (a .args .low)) (codeAt b (startPlace (a .args .at))) ≡ _ =
     sym (f .fields-below .ensures ∙ ap (λ (k : ℕ). below? (codeAt b (a .args .low)) (codeAt b k)) (f .before .start-place .ensures)) in
     let second : below? (codeAt b (endPlace (a .args .at))) (codeAt b (endPlace (a .args .parent))) ≡ _ =
-    sym (g .fields-below2 .ensures ∙ ap (λ (k : ℕ). below? (codeAt b k) (codeAt b (g .before .end-place2 .result))) (g .before .before .end-place .ensures)
+    sym (g .fields-below2 .ensures ∙ ap (λ (k : ℕ). below? (codeAt b k) (codeAt b (g .before .end-place2 .result)))
+    (g .before .before .end-place .ensures)
     ∙ ap (λ (k : ℕ). below? (codeAt b (endPlace (a .args .at))) (codeAt b k)) (g .before .end-place2 .ensures)) in
     second-fails _ _ _ (first ∙ g .before .before .before .if1 .taken) (second ∙ c .if2 .left)
 

@@ -27,13 +27,21 @@ returns-2 : tie.Need-returns-2
 returns-2 c =
     let a = c .before .before .before .before .before in
     let b = a .args .register .now in
-    tree-child b (a .args .n) (a .pre .1) (has-place b (a .args .n) 0 (a .pre .0) (a .pre .1)) (sym (c .before .before .before .sound-label .ensures) ∙ not-false _ (c .before .before .if1 .left)) (sym (c .before .orphan .ensures) ∙ not-true _ (c .if2 .taken))
+    tree-child b (a .args .n) (a .pre .1) (has-place b (a .args .n) 0 (a .pre .0) (a .pre .1))
+    (sym (c .before .before .before .sound-label .ensures) ∙ not-false _ (c .before .before .if1 .left))
+    (sym (c .before .orphan .ensures) ∙ not-true _ (c .if2 .taken))
 
 row-requires : tie.Need-row-requires
 row-requires c κs =
     let a = c .before .before .before .before .before in
-    let b = a .args .register .now in
-    (a .pre .0, ((a .pre .1, sym (c .before .before .before .sound-label .ensures) ∙ not-false _ (c .before .before .if1 .left)), omega (arith, a .pre .1)))
+    let b = a .args .register .now in (
+      a .pre .0,
+      (
+        (a .pre .1, sym (c .before .before .before .sound-label .ensures) ∙ not-false _ (c .before .before .if1 .left)),
+        omega
+            (arith, a .pre .1),
+      ),
+    )
 
 enum-known-end : tie.Need-enum-known-end
 enum-known-end c = search needs
@@ -45,14 +53,20 @@ returns-3 : tie.Need-returns-3
 returns-3 c =
     let a = c .before .before .before .before .before .before .before .before .before in
     let b = a .args .register .now in
-    tree-end b (a .args .n) (a .pre .1) (has-place b (a .args .n) 0 (a .pre .0) (a .pre .1)) (sym (c .before .before .before .before .before .before .before .sound-label .ensures) ∙ not-false _ (c .before .before .before .before .before .before .if1 .left)) (sym (c .before .before .before .before .before .orphan .ensures) ∙ not-false _ (c .before .before .before .before .if2 .left)) _
+    tree-end b (a .args .n) (a .pre .1) (has-place b (a .args .n) 0 (a .pre .0) (a .pre .1))
+    (sym (c .before .before .before .before .before .before .before .sound-label .ensures) ∙ not-false _
+    (c .before .before .before .before .before .before .if1 .left)) (sym (c .before .before .before .before .before .orphan .ensures) ∙
+    not-false _ (c .before .before .before .before .if2 .left)) _
     (sym (c .before .before .before .row .ensures) ∙ c .before .end .given .1)
 
 returns-4 : tie.Need-returns-4
 returns-4 c =
     let a = c .before .before .before .before .before .before .before .before in
     let b = a .args .register .now in
-    tree-un b (a .args .n) (a .pre .1) (has-place b (a .args .n) 0 (a .pre .0) (a .pre .1)) (sym (c .before .before .before .before .before .before .sound-label .ensures) ∙ not-false _ (c .before .before .before .before .before .if1 .left)) (sym (c .before .before .before .before .orphan .ensures) ∙ not-false _ (c .before .before .before .if2 .left))
+    tree-un b (a .args .n) (a .pre .1) (has-place b (a .args .n) 0 (a .pre .0) (a .pre .1))
+    (sym (c .before .before .before .before .before .before .sound-label .ensures) ∙ not-false _
+    (c .before .before .before .before .before .if1 .left)) (sym (c .before .before .before .before .orphan .ensures) ∙ not-false _
+    (c .before .before .before .if2 .left))
     (sym (c .before .before .row .ensures) ∙ c .enum-told .given .1)
 
 pub tree-spec : {M : Type 1} → statement M

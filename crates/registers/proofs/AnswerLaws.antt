@@ -1,0 +1,149 @@
+-- What the questions on a register say of the tree that it holds: places in document order, depths as numbers of ancestors.
+-- Assumes nothing.
+use mathlib.Core.Path.{_≡_, refl, sym, ap, _∙_, subst}
+use mathlib.Core.Logic.{inl, inr, _≢_, _↔_}
+use mathlib.Core.Bool.{Bool, true, false, cond, _&&_, and-eq-true-iff}
+use mathlib.Core.List.{List, [], _∷_, _++_}
+use Prim.Native.Nat.{ℕ, zero, suc, _+_}
+use native.Mathlib.Omega.{arith}
+use lib.Dec.{eqb}
+use lib.ListN.{getD}
+use borrow.Author.Tests.{eqb-true, eqb-false}
+use Rattle.digits.specs.Lists.{All}
+use Rattle.digits.specs.Order.{Digits, Below, below?}
+use Rattle.digits.specs.Code.{Rising}
+use Rattle.digits.proofs.OrderLaws.{below-irrefl, below-trans, below-asym, below?-true, below?-false}
+use Rattle.labels.proofs.LabelLaws.{below?-holds}
+use Rattle.trees.specs.Lists.{Member}
+use Rattle.trees.specs.Forest.{Forest, nil, node, preorder}
+use Rattle.trees.specs.Axes.{Has, Ancestor, Depth}
+use Rattle.trees.specs.Table.{rows}
+use Rattle.trees.specs.Tour.{tour}
+use Rattle.trees.specs.Labelled.{Name, Entry, starts, ends}
+use Rattle.trees.proofs.ListLaws.{all-append, member-left, member-right}
+use Rattle.trees.proofs.ForestLaws.{has→all}
+use Rattle.trees.proofs.DepthLaws.{row-depth}
+use Rattle.trees.proofs.TourLaws.{under-real, at, inside}
+use Rattle.trees.proofs.KinLaws.{above-codes}
+use Rattle.registers.specs.Holds.{identities, Holds}
+use Rattle.registers.specs.declared.Found.the-variants.{At, Nothing}
+use Rattle.registers.specs.Questions.{linesOf, foundFrom, foundIn, aboveEntry?, depthIn}
+use Rattle.registers.proofs.HoldsLaws.{lines-held}
+use Rattle.registers.proofs.QuestionLaws.{at-is, nothing-at, found-from}
+
+-- an entry is above another by the test exactly where it is its ancestor
+pub above-ancestor : (b : List ℕ) (f : Forest (Entry Name)) → Holds b f → (u v : Entry Name) → Has u f → Has v f
+    → (aboveEntry? u v ≡ true) ↔ Ancestor u v f
+above-ancestor b f h u v i j =
+    let k = above-codes starts ends f (h .whole .sound .rising) u v i j in (
+      λ e. let a = and-eq-true-iff (below? (u .start) (v .start)) (below? (v .end) (u .end)) .0 e in
+          k .0 (below?-holds (u .start) (v .start) (a .0), below?-holds (v .end) (u .end) (a .1)),
+      λ a. let c = k .1 a in rw (below?-true (u .start) (v .start) (c .0), below?-true (v .end) (u .end) (c .1)) refl,
+    )
+
+-- an order that does not hold, as a test
+not-below : (x y : Digits) → Below y x → below? x y ≡ false
+not-below x y h = below?-false x y (λ k. below-asym x y k h)
+
+and-no : (t : Bool) → (t && false) ≡ false
+and-no true = refl
+and-no false = refl
+
+by-start : (u v : Entry Name) → Below (v .start) (u .start) → aboveEntry? u v ≡ false
+by-start u v h = rw (not-below (u .start) (v .start) h) refl
+
+by-end : (u v : Entry Name) → Below (u .end) (v .end) → aboveEntry? u v ≡ false
+by-end u v h = rw (not-below (v .end) (u .end) h) (and-no (below? (u .start) (v .start)))
+
+-- the count over two lists, and over entries that are not above
+depth-both : (v : Entry Name) (us ws : List (Entry Name)) → depthIn v (us ++ ws) ≡ depthIn v us + depthIn v ws
+depth-both v [] ws = omega arith
+depth-both v (u ∷ us) ws = omega (arith, depth-both v us ws)
+
+depth-zero : (v : Entry Name) (us : List (Entry Name)) → All (λ u. aboveEntry? u v ≡ false) us → depthIn v us ≡ 0
+depth-zero v [] a = refl
+depth-zero v (u ∷ us) a = rw (a .0) (omega (arith, depth-zero v us (a .1)))
+
+-- an entry's row has the number of those above it as its depth
+depth-row : (f : Forest (Entry Name)) (l r : Digits) (d : ℕ) → Rising l (tour starts ends f) r → (v : Entry Name) → Has v f
+    → Member (v, d + depthIn v (preorder f)) (rows d f)
+depth-row nil l r d h v k = absurd k
+depth-row (node a c s) l r d h v (inl e) =
+    let t = at starts ends l r a c s h in
+    let self : aboveEntry? a a ≡ false = rw (below?-false (a .start) (a .start) (below-irrefl (a .start))) refl in
+    let inner : All (λ u. aboveEntry? u a ≡ false) (preorder c) =
+    has→all _ c (λ u k. by-start u a (inside starts ends c (a .start) (a .end) (t .children) u k .above)) in
+    let next : All (λ u. aboveEntry? u a ≡ false) (preorder s) =
+    has→all _ s (λ u k. by-start u a (below-trans (a .start) (a .end) (u .start) (t .inner)
+    (inside starts ends s (a .end) r (t .next) u k .above))) in
+    let n : depthIn a (preorder (node a c s)) ≡ 0 =
+    depth-zero a (preorder (node a c s)) (self, all-append _ (preorder c) (preorder s) inner next) in
+    let m : d + depthIn v (preorder (node a c s)) ≡ d =
+    ap (λ (z : Entry Name). d + depthIn z (preorder (node a c s))) e ∙ omega (arith, n) in
+    inl (ap (λ (k : ℕ). (v, k)) m ∙ ap (λ (z : Entry Name). (z, d)) e)
+depth-row (node a c s) l r d h v (inr (inl k)) =
+    let t = at starts ends l r a c s h in
+    let i = inside starts ends c (a .start) (a .end) (t .children) v k in
+    let w : Below (v .end) (a .end) = under-real (a .start) (v .end) (a .end) (t .inner) (i .under) in
+    let self : aboveEntry? a v ≡ true = rw (below?-true (a .start) (v .start) (i .above), below?-true (v .end) (a .end) w) refl in
+    let next : All (λ u. aboveEntry? u v ≡ false) (preorder s) =
+    has→all _ s (λ u j. by-start u v (below-trans (v .start) (v .end) (u .start) (i .inner)
+    (below-trans (v .end) (a .end) (u .start) w (inside starts ends s (a .end) r (t .next) u j .above)))) in
+    let n : depthIn v (preorder (node a c s)) ≡ 1 + depthIn v (preorder c) =
+    ap (λ (z : Bool). cond z 1 0 + depthIn v (preorder c ++ preorder s)) self
+    ∙ omega (arith, depth-both v (preorder c) (preorder s), depth-zero v (preorder s) next) in
+    let m : suc d + depthIn v (preorder c) ≡ d + depthIn v (preorder (node a c s)) = omega (arith, n) in
+    inr (member-left (rows (suc d) c) (rows d s) _
+    (subst (λ (z : ℕ). Member (v, z) (rows (suc d) c)) m (depth-row c (a .start) (a .end) (suc d) (t .children) v k)))
+depth-row (node a c s) l r d h v (inr (inr k)) =
+    let t = at starts ends l r a c s h in
+    let i = inside starts ends s (a .end) r (t .next) v k in
+    let w : Below (a .end) (v .end) = below-trans (a .end) (v .start) (v .end) (i .above) (i .inner) in
+    let inner : All (λ u. aboveEntry? u v ≡ false) (preorder c) =
+    has→all _ c (λ u j. by-end u v (below-trans (u .end) (a .end) (v .end)
+    (under-real (a .start) (u .end) (a .end) (t .inner) (inside starts ends c (a .start) (a .end) (t .children) u j .under)) w)) in
+    let n : depthIn v (preorder (node a c s)) ≡ depthIn v (preorder s) =
+    ap (λ (z : Bool). cond z 1 0 + depthIn v (preorder c ++ preorder s)) (by-end a v w)
+    ∙ omega (arith, depth-both v (preorder c) (preorder s), depth-zero v (preorder c) inner) in
+    let m : d + depthIn v (preorder s) ≡ d + depthIn v (preorder (node a c s)) = omega (arith, n) in
+    inr (member-right (rows (suc d) c) (rows d s) _
+    (subst (λ (z : ℕ). Member (v, z) (rows d s)) m (depth-row s (a .end) r d (t .next) v k)))
+
+-- the depth that is answered is the depth in the tree
+pub depth-held : (b : List ℕ) (f : Forest (Entry Name)) → Holds b f → (v : Entry Name) → Has v f → Depth v (depthIn v (linesOf b)) f
+depth-held b f h v k =
+    subst (λ us. Depth v (depthIn v us) f) (sym (lines-held b f h))
+    (row-depth f v _ (subst (λ (z : ℕ). Member (v, z) (rows 0 f)) (let e : 0 + depthIn v (preorder f) ≡ depthIn v (preorder f) =
+    omega arith in e)
+    (depth-row f [] [] 0 (h .whole .sound .rising) v k)))
+
+-- the place that is answered is that of the identity in document order, and an identity with no place is not there
+found-is : (ys : List ℕ) (x i j : ℕ) → foundFrom i x ys ≡ At (i + j) → getD ys j 0 ≡ x
+found-is [] x i j e = nothing-at e
+found-is (y ∷ ys) x i j e = go (eqb x y) refl j (λ k f. found-is ys x (suc i) k f) e
+  where
+    go : (t : Bool) → eqb x y ≡ t → (j : ℕ) → ((k : ℕ) → foundFrom (suc i) x ys ≡ At (suc i + k) → getD ys k 0 ≡ x)
+        → cond t (At i) (foundFrom (suc i) x ys) ≡ At (i + j) → getD (y ∷ ys) j 0 ≡ x
+    go true q zero more e = sym (eqb-true x y q)
+    go true q (suc j) more e = let z : i ≡ i + suc j = at-is e in absurd (omega arith)
+    go false q zero more e = let z = found-from ys x (suc i) (i + 0) e in absurd (omega arith)
+    go false q (suc j) more e = more j (e ∙ ap At (omega arith))
+
+pub place-held : (b : List ℕ) (f : Forest (Entry Name)) (x i : ℕ) → Holds b f → foundIn b x ≡ At i
+    → getD (identities (preorder f)) i 0 ≡ x
+place-held b f x i h e =
+    ap (λ us. getD (identities us) i 0) (sym (lines-held b f h))
+    ∙ found-is (identities (linesOf b)) x 0 i (e ∙ ap At (let z : i ≡ 0 + i = omega arith in z))
+
+found-not : (ys : List ℕ) (x i : ℕ) → foundFrom i x ys ≡ Nothing → All (λ y. y ≢ x) ys
+found-not [] x i e = tt
+found-not (y ∷ ys) x i e = go (eqb x y) refl (λ f. found-not ys x (suc i) f) e
+  where
+    go : (t : Bool) → eqb x y ≡ t → (foundFrom (suc i) x ys ≡ Nothing → All (λ y. y ≢ x) ys)
+        → cond t (At i) (foundFrom (suc i) x ys) ≡ Nothing → All (λ y. y ≢ x) (y ∷ ys)
+    go true q more e = nothing-at (sym e)
+    go false q more e = (λ z. eqb-false x y q (sym z), more e)
+
+pub absent-held : (b : List ℕ) (f : Forest (Entry Name)) (x : ℕ) → Holds b f → foundIn b x ≡ Nothing
+    → All (λ y. y ≢ x) (identities (preorder f))
+absent-held b f x h e = subst (λ us. All (λ y. y ≢ x) (identities us)) (lines-held b f h) (found-not (identities (linesOf b)) x 0 e)
