@@ -20,6 +20,7 @@ fn main() {
     betweens();
     packer();
     tables_labelled();
+    registers_damaged();
 }
 
 // 001, table 3, and P1: first codes, made by the step alone. From open sides on, a cut's two codes are the one code between, and
@@ -387,6 +388,47 @@ fn labelled(numbers: &[u32])
     printer::lines(&register, n);
     text(b"past them:");
     runs(&register[8 + 104 * n..]);
+}
+
+// 01's worked register, sound and with one byte damaged: for each clause of its soundness one that breaks it.
+fn registers_damaged() {
+    damaged(b"register as labelled:", 424, 424, 90);
+    damaged(b"register in 423 bytes:", 423, 424, 90);
+    damaged(b"register of 7 bytes:", 7, 424, 90);
+    damaged(b"count 0:", 424, 0, 0);
+    damaged(b"count 3:", 424, 0, 3);
+    damaged(b"count 5:", 432, 0, 5);
+    damaged(b"count 4100:", 432, 1, 16);
+    damaged(b"second number 1:", 424, 4, 1);
+    damaged(b"identity 0:", 424, 112, 0);
+    damaged(b"identity twice:", 424, 112, 10);
+    damaged(b"start with a hole:", 424, 120, 0x71);
+    damaged(b"start that ends in 1:", 424, 120, 0x50);
+    damaged(b"start not above the sibling's end:", 424, 224, 0x70);
+    damaged(b"end below the last child's end:", 424, 256, 0xb8);
+    damaged(b"end not below the parent's end:", 424, 256, 0xfc);
+    damaged(b"another parent start:", 424, 392, 0x60);
+    damaged(b"no parent start:", 424, 392, 0);
+    damaged(b"parent start of the root:", 424, 80, 0x58);
+    damaged(b"second root:", 424, 48, 0x98);
+    damaged(b"tag 77:", 424, 12, 77);
+}
+
+// Asks for the places of 13 and 99 after a byte was set.
+fn damaged(name: &[u8], room: usize, at: usize, byte: u8)
+    requires inside { ⌜ (room ≤ 432) × (at < 432) ⌝ }
+{
+    let mut register = [FILL; 432];
+    tables::label(&[10, 1, 0, 11, 2, 1, 12, 2, 1, 13, 3, 2], &mut register);
+    register[at] = byte;
+    asked(name, &register[..room]);
+}
+
+fn asked(name: &[u8], register: &[u8]) {
+    text(name);
+    answered(registers::place(register, 13));
+    answered(registers::place(register, 99));
+    newline();
 }
 
 fn text(bytes: &[u8]) {
