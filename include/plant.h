@@ -2,8 +2,8 @@
  *
  * An entry of the register carries a label of three packed codes: its start, its end and its parent's start. Which entry
  * stands before, above, directly above or beside which is read off two labels. A table of entries in document order gets
- * its first labels by plant_label. The functions behind these calls are proved to meet their contracts; what a caller has to
- * see to stands under the word `caller`.
+ * its first labels by plant_label. Where an entry stands in a register and how deep is asked by its identity. The functions
+ * behind these calls are proved to meet their contracts; what a caller has to see to stands under the word `caller`.
  *
  * Every buffer belongs to the caller: nothing is allocated, and no pointer is kept after a call. No state is kept either,
  * so calls may run in several threads as long as no thread writes to a buffer that is lent to a running call.
@@ -146,6 +146,42 @@ int32_t plant_between(const uint8_t *left, size_t l_len, const uint8_t *right, s
  *           numbers, reg to len bytes that may be read and written; reg does not overlap table; 48 KB of stack are free
  * proved    tables::label, crates/tables/src/lib.rt */
 int64_t plant_label(const uint32_t *table, size_t numbers, uint8_t *reg, size_t len);
+
+/* Questions on a register. Each looks at the whole register first, however small the question. A register is sound when
+ * - its count is 1 to 4,096, the number at 4 is 0 and the buffer holds 8 + 104 x count bytes or more;
+ * - its identities are not 0 and all different; a tag is any number;
+ * - every start and end is a code; so is every parent start but the first entry's, which is empty: that entry is the root;
+ * - its entries stand in document order of a tree with that one root and no depth above 63, in which the codes rise strictly
+ *   along the tour that meets an entry's start, then its children one after another, then its end;
+ * - every other entry's parent start is the start of its parent in that tree.
+ * The codes need not be those plant_label gives. Bytes past the counted entries are not looked at. */
+
+/* At which place does an entry stand?
+ * takes     reg: a register; identity: that of the entry; read only, kept no longer than the call
+ * answers   the place, from 0 in document order: the root's is 0
+ * refuses   PLANT_NO_REGISTER if reg holds no sound register, PLANT_NO_TARGET if no entry has the identity
+ * writes    nothing
+ * caller    reg is not NULL, even for length 0, and points to len readable bytes; 64 KB of stack are free
+ * proved    registers::place, crates/registers/src/lib.rt */
+int32_t plant_place(const uint8_t *reg, size_t len, uint32_t identity);
+
+/* How deep does an entry stand?
+ * takes     reg: a register; identity: that of the entry; read only, kept no longer than the call
+ * answers   the number of its ancestors, 0 to 63: the root's is 0
+ * refuses   PLANT_NO_REGISTER if reg holds no sound register, PLANT_NO_TARGET if no entry has the identity
+ * writes    nothing
+ * caller    reg is not NULL, even for length 0, and points to len readable bytes; 64 KB of stack are free
+ * proved    registers::depth, crates/registers/src/lib.rt */
+int32_t plant_depth(const uint8_t *reg, size_t len, uint32_t identity);
+
+/* How far is it from entry x to entry y?
+ * takes     reg: a register; x, y: identities of two entries, or of one; read only, kept no longer than the call
+ * answers   the place of y minus the place of x, -4,095 to 4,095
+ * refuses   PLANT_NO_REGISTER if reg holds no sound register, PLANT_NO_TARGET if no entry has the identity x, or none y
+ * writes    nothing
+ * caller    reg is not NULL, even for length 0, and points to len readable bytes; 64 KB of stack are free
+ * proved    registers::distance, crates/registers/src/lib.rt */
+int32_t plant_distance(const uint8_t *reg, size_t len, uint32_t x, uint32_t y);
 
 #ifdef __cplusplus
 }

@@ -1,5 +1,5 @@
 /* What the tests of plant.h share: memory between pages that may not be touched, messages from a fault, random numbers.
- * A test defines _DEFAULT_SOURCE before it includes anything. */
+ * A test defines _DEFAULT_SOURCE before it includes anything. What not every test needs is inline. */
 #include <signal.h>
 #include <stdint.h>
 #include <stdio.h>
@@ -53,12 +53,12 @@ static void make_input(size_t size, uint8_t **lent, uint8_t **filled)
 }
 
 /* Whole pages to be lent for writing, between guards. */
-static uint8_t *make_output(size_t size)
+static inline uint8_t *make_output(size_t size)
 {
     return must_map(guarded(size), size, PROT_READ | PROT_WRITE, MAP_PRIVATE | MAP_ANONYMOUS | MAP_FIXED, -1);
 }
 
-static void *must_have(size_t size)
+static inline void *must_have(size_t size)
 {
     void *p = malloc(size);
 

@@ -10,17 +10,11 @@
 #define _DEFAULT_SOURCE
 #include "guard.h"
 #include "plant.h"
-
-/* 01's numbers, stated here once more on purpose. */
-enum { LONGEST = 127, FIELD = 32, ROW = 3, ROWS = 4096, DEEPEST = 63, HEADER = 8, ENTRY = 104 };
-
-_Static_assert(PLANT_ROW == ROW && PLANT_ROWS == ROWS && PLANT_HEADER == HEADER && PLANT_ENTRY == ENTRY, "sizes");
+#include "tables.h"
 
 /* ---- the case under way ---- */
 
-enum { MOST = ROWS + 2 }; /* rows, so that too many can be lent */
-static uint32_t table[MOST * ROW];
-static size_t numbers, room;
+static size_t room;
 
 static const char *group;
 static unsigned long case_number;
@@ -178,21 +172,6 @@ static void make_codes(int p, int q)
     make_codes(j, q);
 }
 
-static void put_field(uint8_t *field, const char *code)
-{
-    static const int weight[4] = {64, 16, 4, 1};
-
-    memset(field, 0, FIELD);
-    for (int k = 0; code[k]; k++)
-        field[k / 4] = (uint8_t)(field[k / 4] + weight[k % 4] * (code[k] - '0'));
-}
-
-static void put_32(uint8_t *to, uint32_t x)
-{
-    for (int i = 0; i < 4; i++, x /= 256)
-        to[i] = (uint8_t)(x % 256);
-}
-
 static void model_register(int rows, uint8_t *to)
 {
     codes[0][0] = codes[2 * rows + 1][0] = 0;
@@ -221,12 +200,6 @@ static void model_register(int rows, uint8_t *to)
 static size_t table_pages, register_pages; /* bytes of all pages */
 static uint8_t *table_lent, *table_filled, *register_lent, *register_wanted;
 static unsigned long tally[5]; /* by refusal number; 0 accepted */
-
-/* of n bytes, and at least one byte more */
-static size_t whole_pages(size_t n)
-{
-    return (n / page + 1) * page;
-}
 
 static void make_buffers(void)
 {
@@ -295,42 +268,6 @@ static void try_rooms(void)
     room = 0;
     try_table();
     try_room(-1), try_room(0), try_room(1);
-}
-
-/* ---- making tables ---- */
-
-enum shape { FLAT, CHAINS, UNIFORM, DEEP, SHAPES };
-
-static uint32_t next_depth(enum shape shape, uint32_t previous)
-{
-    int most = previous < DEEPEST ? (int)previous + 1 : DEEPEST, x = pick(most), y = pick(most);
-
-    switch (shape) {
-    case FLAT:
-        return 1;
-    case CHAINS:
-        return previous < DEEPEST ? previous + 1 : 1;
-    case UNIFORM:
-        return (uint32_t)(1 + x);
-    default:
-        return (uint32_t)(1 + (x > y ? x : y));
-    }
-}
-
-/* Row i has identity (i + 1) x factor, which no other row has if the factor is odd or small. The factors: rows in order; all
- * the same modulo 8192; the inverse of 2654435761 modulo 2^32, a usual factor to spread numbers over a hash table, so that
- * all fall in its first place, or, negative, in its last. */
-static const uint32_t factors[] = {1, 8192, 244002641, -(uint32_t)244002641};
-enum { FACTORS = sizeof factors / sizeof factors[0] };
-
-static void make_table(size_t rows, enum shape shape, uint32_t factor)
-{
-    numbers = ROW * rows;
-    for (size_t i = 0; i < rows; i++) {
-        table[ROW * i] = (uint32_t)(i + 1) * factor;
-        table[ROW * i + 1] = chance(4) ? 0 : (uint32_t)draw();
-        table[ROW * i + 2] = i == 0 ? 0 : next_depth(shape, table[ROW * (i - 1) + 2]);
-    }
 }
 
 /* ---- fixed cases ---- */
@@ -508,7 +445,7 @@ static void random_table(void)
     size_t rows = (size_t)(1 + pick(chance(8) ? 300 : 24));
 
     group = "random table";
-    make_table(rows, (enum shape)pick(SHAPES), chance(2) ? (uint32_t)draw() | 1 : factors[pick(FACTORS)]);
+    make_table(rows, (enum shape)pick(SHAPES), random_factor());
     random_room();
     group = "random table, damaged";
     for (int faults = 1 + pick(3); faults > 0; faults--) {

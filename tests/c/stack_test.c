@@ -1,7 +1,7 @@
 /* The stack that each call of plant.h needs: it runs on a stack of its own, painted before, with a page below that may not be
- * touched. Inputs are the longest codes and the longest tables, so that no call ends early. Answers are compared too. A call
- * may use LIMIT bytes, plant_label LABEL_LIMIT. On a thread with no more than that above the least stack plant_label runs too.
- */
+ * touched. Inputs are the longest codes and tables and the largest registers, so that no call ends early. Answers are compared
+ * too. A call may use LIMIT bytes, plant_label LABEL_LIMIT, a question on a register REGISTER_LIMIT. These run too on a thread
+ * with no more than that above the least stack. */
 #define _DEFAULT_SOURCE
 #include <limits.h>
 #include <pthread.h>
@@ -15,7 +15,7 @@
 
 #include "plant.h"
 
-enum { STACK = 65536, LIMIT = 1024, LABEL_LIMIT = 49152, PAINT = 0xA5 };
+enum { STACK = 131072, LIMIT = 1024, LABEL_LIMIT = 49152, REGISTER_LIMIT = 65536, PAINT = 0xA5 };
 
 static uint8_t digits[PLANT_LONGEST], left[PLANT_FIELD], right[PLANT_FIELD], made[PLANT_FIELD], read_back[PLANT_LONGEST];
 static uint8_t upper[PLANT_LABEL], lower[PLANT_LABEL];
@@ -23,6 +23,7 @@ static uint32_t table[PLANT_ROW * PLANT_ROWS];
 static uint8_t reg[PLANT_HEADER + PLANT_ENTRY * PLANT_ROWS];
 static size_t room = sizeof reg;
 static int64_t answer;
+static void (*under_way)(void); /* in a thread */
 
 static void nothing(void) { answer = 0; }
 static void order(void) { answer = plant_order(upper, sizeof upper, lower, sizeof lower); }
@@ -33,11 +34,16 @@ static void pack(void) { answer = plant_pack(digits, sizeof digits, made, sizeof
 static void unpack(void) { answer = plant_unpack(left, sizeof left, read_back, sizeof read_back); }
 static void between(void) { answer = plant_between(left, sizeof left, right, sizeof right, made, sizeof made); }
 static void label(void) { answer = plant_label(table, PLANT_ROW * PLANT_ROWS, reg, room); }
+static void place(void) { answer = plant_place(reg, sizeof reg, PLANT_ROWS); }
+static void depth(void) { answer = plant_depth(reg, sizeof reg, PLANT_ROWS); }
+static void distance(void) { answer = plant_distance(reg, sizeof reg, PLANT_ROWS, 1); }
+static void absent(void) { answer = plant_distance(reg, sizeof reg, PLANT_ROWS, 0); }
 
-static void *label_in_thread(void *unused)
+static void *in_thread(void *unused)
 {
-    label();
-    return unused;
+    (void)unused;
+    under_way();
+    return NULL;
 }
 
 static const struct call {
@@ -103,6 +109,12 @@ static void make_table(uint32_t (*depth)(uint32_t))
 
 static uint32_t flat(uint32_t previous) { return previous > 0 ? previous : 1; }
 static uint32_t chains(uint32_t previous) { return previous < 63 ? previous + 1 : 1; }
+static uint32_t last_deepest(uint32_t previous)
+{
+    static uint32_t made; /* rows after the first */
+
+    return ++made <= PLANT_ROWS - 63 ? 1 : previous < 63 ? previous + 1 : 1;
+}
 static uint32_t random_depth(uint32_t previous) { return 1 + (uint32_t)rand() % (previous < 63 ? previous + 1 : 63); }
 
 /* Runs a call and answers whether its answer or its stack is wrong. */
@@ -126,17 +138,85 @@ static int wrong_label(const char *name, int64_t expected)
     return wrong(name, label, expected, LABEL_LIMIT);
 }
 
-static int wrong_in_thread(void)
+/* On a thread with `limit` bytes above the least stack */
+static int wrong_in_thread(const char *name, void (*run)(void), int64_t expected, size_t limit)
 {
     pthread_attr_t attributes;
     pthread_t thread;
 
     answer = INT64_MIN;
-    if (pthread_attr_init(&attributes) != 0 || pthread_attr_setstacksize(&attributes, PTHREAD_STACK_MIN + LABEL_LIMIT) != 0
-        || pthread_create(&thread, &attributes, label_in_thread, NULL) != 0 || pthread_join(thread, NULL) != 0)
+    under_way = run;
+    if (pthread_attr_init(&attributes) != 0 || pthread_attr_setstacksize(&attributes, (size_t)PTHREAD_STACK_MIN + limit) != 0
+        || pthread_create(&thread, &attributes, in_thread, NULL) != 0 || pthread_join(thread, NULL) != 0)
         exit(2);
-    printf("plant_label, in a thread of %d bytes of stack: %lld\n", PTHREAD_STACK_MIN + LABEL_LIMIT, (long long)answer);
-    return answer != (int64_t)sizeof reg;
+    printf("%s, in a thread of %zu bytes of stack: %lld\n", name, (size_t)PTHREAD_STACK_MIN + limit, (long long)answer);
+    return answer != expected;
+}
+
+/* The three questions, on the last entry and the first. */
+static int wrong_questions(const char *shape, int64_t place_of_last, int64_t depth_of_last, int64_t from_last_to_first)
+{
+    int bad = 0;
+
+    printf("a register, %s:\n", shape);
+    bad |= wrong("plant_place", place, place_of_last, REGISTER_LIMIT);
+    bad |= wrong("plant_depth", depth, depth_of_last, REGISTER_LIMIT);
+    bad |= wrong("plant_distance", distance, from_last_to_first, REGISTER_LIMIT);
+    return bad;
+}
+
+/* A register of n entries, each the child of the one before, with long codes; the last has the last identity. */
+static void make_chain(size_t n)
+{
+    memset(reg, 0, sizeof reg);
+    reg[0] = (uint8_t)n;
+    for (size_t i = 0; i < n; i++) {
+        uint8_t *at = reg + PLANT_HEADER + PLANT_ENTRY * i;
+        at[0] = i < n - 1 ? (uint8_t)(i + 1) : PLANT_ROWS % 256;
+        at[1] = i < n - 1 ? 0 : PLANT_ROWS / 256;
+        make_label(at + 8, PLANT_LONGEST - i, 2, i / 2 + 1, i % 2 ? 2 : 3);
+        if (i > 0)
+            memcpy(at + 8 + 2 * PLANT_FIELD, at + 8 - PLANT_ENTRY, PLANT_FIELD);
+    }
+}
+
+static int wrong_registers(void)
+{
+    uint8_t *last = reg + PLANT_HEADER + PLANT_ENTRY * (PLANT_ROWS - 1);
+    const int64_t far = PLANT_ROWS - 1, refused = PLANT_NO_REGISTER;
+    int bad = 0;
+
+    make_table(flat);
+    label();
+    bad |= wrong_questions("flat", far, 1, -far);
+    make_table(random_depth);
+    label();
+    bad |= wrong_questions("random", far, table[PLANT_ROW * PLANT_ROWS - 1], -far);
+    make_table(chains);
+    table[PLANT_ROW * PLANT_ROWS - 1] = 1; /* a last entry beside the chains, so that all of them are gone through */
+    label();
+    bad |= wrong_questions("chains", far, 1, -far);
+    make_table(last_deepest);
+    label();
+    bad |= wrong_questions("the last entry at depth 63", far, 63, -far);
+    bad |= wrong_in_thread("plant_place", place, far, REGISTER_LIMIT);
+    bad |= wrong_in_thread("plant_depth", depth, 63, REGISTER_LIMIT);
+    bad |= wrong_in_thread("plant_distance", distance, -far, REGISTER_LIMIT);
+    bad |= wrong("plant_distance, an identity that is not there", absent, PLANT_NO_TARGET, REGISTER_LIMIT);
+    last[PLANT_ENTRY - 1] = 2;
+    bad |= wrong_questions("the last byte damaged", refused, refused, refused);
+    last[PLANT_ENTRY - 1] = 0;
+    memcpy(last + 8 + PLANT_FIELD, reg + 8 + PLANT_HEADER, PLANT_FIELD);
+    bad |= wrong_questions("the last end at the first start", refused, refused, refused);
+    memcpy(last, reg + PLANT_HEADER, 4);
+    bad |= wrong_questions("the last identity the first once more", refused, refused, refused);
+    reg[4] = 1;
+    bad |= wrong_questions("the second number not 0", refused, refused, refused);
+    make_chain(64);
+    bad |= wrong_questions("one chain down to depth 63", 63, 63, -63);
+    make_chain(65);
+    bad |= wrong_questions("one chain down to depth 64", refused, refused, refused);
+    return bad;
 }
 
 int main(void)
@@ -158,7 +238,9 @@ int main(void)
     bad |= wrong_label("plant_label, random", sizeof reg);
     make_table(chains);
     bad |= wrong_label("plant_label, chains", sizeof reg);
-    bad |= wrong_in_thread();
+    bad |= wrong_in_thread("plant_label", label, sizeof reg, LABEL_LIMIT);
+    bad |= wrong_registers();
+    make_table(chains);
     room--;
     bad |= wrong_label("plant_label, no room", PLANT_ROOM);
     table[PLANT_ROW * (PLANT_ROWS - 1)] = 1;

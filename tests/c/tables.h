@@ -1,0 +1,74 @@
+/* What the tests of tables and of registers share: random tables, and a register's parts put in their places. Needs guard.h. */
+
+/* 01's numbers, stated here once more on purpose. */
+enum { LONGEST = 127, FIELD = 32, ROW = 3, ROWS = 4096, DEEPEST = 63, HEADER = 8, ENTRY = 104 };
+
+_Static_assert(PLANT_ROW == ROW && PLANT_ROWS == ROWS && PLANT_HEADER == HEADER && PLANT_ENTRY == ENTRY, "sizes");
+
+/* ---- making tables ---- */
+
+enum { MOST = ROWS + 2 }; /* rows, so that too many can be lent */
+static uint32_t table[MOST * ROW];
+static size_t numbers;
+
+enum shape { FLAT, CHAINS, UNIFORM, DEEP, SHAPES };
+
+static uint32_t next_depth(enum shape shape, uint32_t previous)
+{
+    int most = previous < DEEPEST ? (int)previous + 1 : DEEPEST, x = pick(most), y = pick(most);
+
+    switch (shape) {
+    case FLAT:
+        return 1;
+    case CHAINS:
+        return previous < DEEPEST ? previous + 1 : 1;
+    case UNIFORM:
+        return (uint32_t)(1 + x);
+    default:
+        return (uint32_t)(1 + (x > y ? x : y));
+    }
+}
+
+/* Row i has identity (i + 1) x factor, which no other row has if the factor is odd or small. The factors: rows in order; all
+ * the same modulo 8192; the inverse of 2654435761 modulo 2^32, a usual factor to spread numbers over a hash table, so that
+ * all fall in its first place, or, negative, in its last. */
+static const uint32_t factors[] = {1, 8192, 244002641, -(uint32_t)244002641};
+enum { FACTORS = sizeof factors / sizeof factors[0] };
+
+static uint32_t random_factor(void)
+{
+    return chance(2) ? (uint32_t)draw() | 1 : factors[pick(FACTORS)];
+}
+
+static void make_table(size_t rows, enum shape shape, uint32_t factor)
+{
+    numbers = ROW * rows;
+    for (size_t i = 0; i < rows; i++) {
+        table[ROW * i] = (uint32_t)(i + 1) * factor;
+        table[ROW * i + 1] = chance(4) ? 0 : (uint32_t)draw();
+        table[ROW * i + 2] = i == 0 ? 0 : next_depth(shape, table[ROW * (i - 1) + 2]);
+    }
+}
+
+/* ---- a register's parts ---- */
+
+/* of n bytes, and at least one byte more */
+static size_t whole_pages(size_t n)
+{
+    return (n / page + 1) * page;
+}
+
+static void put_field(uint8_t *field, const char *code)
+{
+    static const int weight[4] = {64, 16, 4, 1};
+
+    memset(field, 0, FIELD);
+    for (int k = 0; code[k]; k++)
+        field[k / 4] = (uint8_t)(field[k / 4] + weight[k % 4] * (code[k] - '0'));
+}
+
+static void put_32(uint8_t *to, uint32_t x)
+{
+    for (int i = 0; i < 4; i++, x /= 256)
+        to[i] = (uint8_t)(x % 256);
+}
