@@ -4,7 +4,7 @@ use mathlib.Core.Path.{_≡_, refl, sym, ap, _∙_, subst}
 use mathlib.Core.Logic.{inl, inr, _≢_, _↔_}
 use mathlib.Core.Bool.{Bool, true, false, cond, _&&_, and-eq-true-iff}
 use mathlib.Core.List.{List, [], _∷_, _++_}
-use Prim.Native.Nat.{ℕ, zero, suc, _+_}
+use Prim.Native.Nat.{ℕ, zero, suc, _+_, _≤_, _<_}
 use native.Mathlib.Omega.{arith}
 use lib.Dec.{eqb}
 use lib.ListN.{getD}
@@ -13,6 +13,11 @@ use Rattle.digits.specs.Lists.{All}
 use Rattle.digits.specs.Order.{Digits, Below, below?}
 use Rattle.digits.specs.Code.{Rising}
 use Rattle.digits.proofs.OrderLaws.{below-irrefl, below-trans, below-asym, below?-true, below?-false}
+use Rattle.answers.specs.Signed.{yesNo}
+use Rattle.codes.specs.Code.{fieldSize}
+use Rattle.codes.specs.Reading.{read, sideOf}
+use Rattle.labels.specs.Label.{startAt, endAt, labelSize, fieldAt, labelOf}
+use Rattle.labels.specs.Questions.{above?, asked, aboveAnswer}
 use Rattle.labels.proofs.LabelLaws.{below?-holds}
 use Rattle.trees.specs.Lists.{Member}
 use Rattle.trees.specs.Forest.{Forest, nil, node, preorder}
@@ -27,9 +32,13 @@ use Rattle.trees.proofs.TourLaws.{under-real, at, inside}
 use Rattle.trees.proofs.KinLaws.{above-codes}
 use Rattle.registers.specs.Holds.{identities, Holds}
 use Rattle.registers.specs.declared.Found.the-variants.{At, Nothing}
-use Rattle.registers.specs.Questions.{linesOf, foundFrom, foundIn, aboveEntry?, depthIn}
+use Rattle.registers.specs.Layout.{entryPlace, labelAt}
+use Rattle.registers.specs.Entries.{codeAt}
+use Rattle.registers.specs.Sound.{labelBytes, soundLabel?, lineAt}
+use Rattle.registers.specs.Questions.{countOf, linesOf, registerSound?, foundFrom, foundIn, aboveEntry?, depthIn}
+use Rattle.registers.proofs.SoundLaws.{label-field}
 use Rattle.registers.proofs.HoldsLaws.{lines-held}
-use Rattle.registers.proofs.QuestionLaws.{at-is, nothing-at, found-from}
+use Rattle.registers.proofs.QuestionLaws.{labels-sound, above-is, at-is, nothing-at, found-from}
 
 -- an entry is above another by the test exactly where it is its ancestor
 pub above-ancestor : (b : List ℕ) (f : Forest (Entry Name)) → Holds b f → (u v : Entry Name) → Has u f → Has v f
@@ -147,3 +156,27 @@ found-not (y ∷ ys) x i e = go (eqb x y) refl (λ f. found-not ys x (suc i) f) 
 pub absent-held : (b : List ℕ) (f : Forest (Entry Name)) (x : ℕ) → Holds b f → foundIn b x ≡ Nothing
     → All (λ y. y ≢ x) (identities (preorder f))
 absent-held b f x h e = subst (λ us. All (λ y. y ≢ x) (identities us)) (lines-held b f h) (found-not (identities (linesOf b)) x 0 e)
+
+-- the question on two labels of a sound register, "above", is the test on its two lines
+label-code : (b : List ℕ) (i at : ℕ) → at + fieldSize ≤ labelSize
+    → sideOf (read (fieldAt at (labelBytes b i))) ≡ codeAt b (entryPlace i + labelAt + at)
+label-code b i at h = ap (λ z. sideOf (read z)) (label-field b i at h)
+
+label-above : (b : List ℕ) (i j : ℕ) → soundLabel? b i ≡ true → soundLabel? b j ≡ true
+    → above? (labelOf (labelBytes b i)) (labelOf (labelBytes b j)) ≡ aboveEntry? (lineAt b i) (lineAt b j)
+unfolding labelOf
+label-above b i j s t =
+    rw (
+      label-code b i startAt (omega arith),
+      label-code b j startAt (omega arith),
+      label-code b i endAt (omega arith),
+      label-code b j endAt (omega arith),
+    ) (sym (above-is b i j s t))
+
+pub above-label : (b : List ℕ) (i j : ℕ) → registerSound? b ≡ true → i < countOf b → j < countOf b
+    → aboveAnswer (labelBytes b i) (labelBytes b j) ≡ yesNo (aboveEntry? (lineAt b i) (lineAt b j))
+unfolding asked
+above-label b i j e h k =
+    let s = labels-sound b i e h in
+    let t = labels-sound b j e k in
+    rw (s, t) (ap yesNo (label-above b i j s t))
