@@ -4,11 +4,13 @@
 // first four bytes of a field. Labelling is written in two ways, and the faster with a hash set for the identities too; the
 // fastest is the baseline.
 mod random;
+mod tables;
 
 use random::Random;
 use std::collections::HashSet;
 use std::hint::black_box;
 use std::time::Instant;
+use tables::{label, table, Places, DEEPEST, END, ENTRY, FIELD, HEADER, MOST, PARENT, SHAPES, START};
 
 const SEED: u64 = 20_250_301;
 const ROUNDS: usize = 15;
@@ -16,25 +18,8 @@ const ROWS_A_ROUND: usize = 40_960;
 const DAMAGED: usize = 3_000;
 
 const ROW: usize = 3;
-const ROWS: usize = 4_096;
-const DEEPEST: u32 = 63;
-const FIELD: usize = 32;
-const HEADER: usize = 8;
-const ENTRY: usize = 104;
-const START: usize = 8;
-const END: usize = START + FIELD;
-const PARENT: usize = END + FIELD;
 
 type Way = fn(&[u32], &mut [u8]) -> i64;
-
-// The proved call. A slice passes as a pointer and then a length.
-fn proved(table: &[u32], register: &mut [u8]) -> i64 {
-    extern "C" {
-        fn plant_label(table: *const u32, numbers: usize, register: *mut u8, len: usize) -> i64;
-    }
-    // SAFETY: both pointers are good for the lengths beside them, and the output is borrowed alone.
-    unsafe { plant_label(table.as_ptr(), table.len(), register.as_mut_ptr(), register.len()) }
-}
 
 // The same call in Rust.
 mod plain {
@@ -59,30 +44,14 @@ mod plain {
         }
     }
 
-    // Twice as many places as rows or more, a power of two; a free one holds 0.
-    pub struct Places {
-        places: Vec<u32>,
-        shift: u32,
-    }
-
     impl Seen for Places {
         fn new(rows: usize) -> Self {
-            let size = (2 * rows).next_power_of_two();
-            Places { places: vec![0; size], shift: 32 - size.trailing_zeros() }
+            Places::new(rows)
         }
 
         #[inline(always)]
         fn enter(&mut self, identity: u32) -> bool {
-            let mask = self.places.len() - 1;
-            let mut at = (identity.wrapping_mul(2_654_435_761) >> self.shift) as usize & mask;
-            while self.places[at] != 0 {
-                if self.places[at] == identity {
-                    return false;
-                }
-                at = at + 1 & mask;
-            }
-            self.places[at] = identity;
-            true
+            self.enter(identity)
         }
     }
 
@@ -96,7 +65,7 @@ mod plain {
         let (rows, []) = table.as_chunks::<ROW>() else {
             return Err(refused(1, 0));
         };
-        if rows.is_empty() || rows.len() > ROWS {
+        if rows.is_empty() || rows.len() > MOST {
             return Err(refused(1, 0));
         }
         let mut seen = S::new(rows.len());
@@ -287,33 +256,11 @@ mod plain {
 
 // The proved call first.
 const WAYS: [(&str, Way); 4] = [
-    ("proved", proved),
-    ("listed", plain::listed::<plain::Places>),
-    ("walked", plain::walked::<plain::Places>),
+    ("proved", label),
+    ("listed", plain::listed::<Places>),
+    ("walked", plain::walked::<Places>),
     ("hash set", plain::listed::<HashSet<u32>>),
 ];
-
-const SHAPES: [&str; 3] = ["flat", "random", "chains"];
-
-// A table of a shape, with identities and tags at random.
-fn table(random: &mut Random, shape: &str, rows: usize) -> Vec<u32> {
-    let mut identities = HashSet::new();
-    let mut table = Vec::new();
-    let mut depth = 0;
-    while identities.len() < rows {
-        let identity = random.next() as u32;
-        if identity == 0 || !identities.insert(identity) {
-            continue;
-        }
-        table.extend([identity, random.next() as u32, depth]);
-        depth = match shape {
-            "flat" => 1,
-            "random" => 1 + random.below(DEEPEST.min(depth + 1) as usize) as u32,
-            _ => depth % DEEPEST + 1,
-        };
-    }
-    table
-}
 
 // Every way gives the same answer and the same bytes, also past the register; the answer.
 fn agreed(table: &[u32], room: usize) -> i64 {
@@ -330,7 +277,7 @@ fn agreed(table: &[u32], room: usize) -> i64 {
 
 fn check(random: &mut Random) {
     for shape in SHAPES {
-        for rows in (1..=200).chain([1_000, ROWS - 1, ROWS]) {
+        for rows in (1..=200).chain([1_000, MOST - 1, MOST]) {
             let table = table(random, shape, rows);
             let size = HEADER + ENTRY * rows;
             assert_eq!(agreed(&table, size), size as i64);
@@ -338,7 +285,7 @@ fn check(random: &mut Random) {
             assert_eq!(agreed(&table, size - 1), -100_004);
             agreed(&table[..ROW * rows - 1], size);
         }
-        agreed(&table(random, shape, ROWS + 1), HEADER + ENTRY * (ROWS + 1));
+        agreed(&table(random, shape, MOST + 1), HEADER + ENTRY * (MOST + 1));
         for _ in 0..DAMAGED {
             let rows = 1 + random.below(80);
             let mut damaged = table(random, shape, rows);
@@ -377,13 +324,13 @@ fn main() {
     let mut random = Random(SEED);
     check(&mut random);
     println!("plant_label. Seed {SEED}. Before timing, every way gave the same answer and the same bytes on tables of");
-    println!("1 to 200 and up to {ROWS} rows in each shape, at exact room, more and less, and on {DAMAGED} damaged ones of each.");
+    println!("1 to 200 and up to {MOST} rows in each shape, at exact room, more and less, and on {DAMAGED} damaged ones of each.");
     println!("Caches are warm: one table and one register again and again. {ROUNDS} rounds, each way in turn, the best counts.");
     println!("Both sides are compiled for plain x86-64. Of the ways to write it in Rust the fastest is the baseline.");
     println!();
     println!("{:20} {:>8} {:>8} {:>7}   each way in Rust", "ns a row", "proved", "Rust", "ratio");
     for shape in SHAPES {
-        for rows in [1, 64, 512, ROWS] {
+        for rows in [1, 64, 512, MOST] {
             let [proved, ways @ ..] = time(&table(&mut random, shape, rows));
             let fastest = ways.iter().copied().fold(f64::INFINITY, f64::min);
             let each = WAYS[1..].iter().zip(ways).map(|((name, _), ns)| format!("{name} {ns:.2}"));

@@ -3,26 +3,19 @@
 // In Rust a field is four numbers of 64 bits, the first digit highest, so that codes are compared as numbers are, one word after
 // another. Each question is written in two ways; the faster is the baseline.
 mod random;
+mod tables;
 
 use random::Random;
-use std::collections::HashSet;
 use std::hint::black_box;
 use std::time::Instant;
+use tables::{label, table, Places, DEEPEST, END, ENTRY, FIELD, HEADER, MOST, PARENT, SHAPES, START};
 
 const SEED: u64 = 20_250_302;
 const ROUNDS: usize = 25;
 const ENTRIES_A_ROUND: usize = 40_960;
 const DAMAGED: usize = 4_000;
 
-const ENTRIES: usize = 4_096;
-const DEEPEST: usize = 63;
 const LONGEST: usize = 127;
-const FIELD: usize = 32;
-const HEADER: usize = 8;
-const ENTRY: usize = 104;
-const START: usize = 8;
-const END: usize = START + FIELD;
-const PARENT: usize = END + FIELD;
 
 type Way = fn(&[u8], u32) -> i32;
 
@@ -31,7 +24,6 @@ mod proved {
     extern "C" {
         fn plant_place(register: *const u8, len: usize, identity: u32) -> i32;
         fn plant_depth(register: *const u8, len: usize, identity: u32) -> i32;
-        fn plant_label(table: *const u32, numbers: usize, register: *mut u8, len: usize) -> i64;
     }
 
     pub fn place(register: &[u8], identity: u32) -> i32 {
@@ -42,11 +34,6 @@ mod proved {
     pub fn depth(register: &[u8], identity: u32) -> i32 {
         // SAFETY: the pointer is good for the length beside it.
         unsafe { plant_depth(register.as_ptr(), register.len(), identity) }
-    }
-
-    pub fn label(table: &[u32], register: &mut [u8]) -> i64 {
-        // SAFETY: both pointers are good for the lengths beside them, and the output is borrowed alone.
-        unsafe { plant_label(table.as_ptr(), table.len(), register.as_mut_ptr(), register.len()) }
     }
 }
 
@@ -61,34 +48,6 @@ mod plain {
     const LOWER: u64 = 0x5555_5555_5555_5555;
 
     type Code = [u64; 4];
-
-    // The identities seen so far: twice as many places as entries or more, a power of two; a free one holds 0.
-    struct Places {
-        places: Vec<u32>,
-        shift: u32,
-    }
-
-    impl Places {
-        fn new(entries: usize) -> Self {
-            let size = (2 * entries).next_power_of_two();
-            Places { places: vec![0; size], shift: 32 - size.trailing_zeros() }
-        }
-
-        // Enters an identity that is not 0; whether it is new.
-        #[inline(always)]
-        fn enter(&mut self, identity: u32) -> bool {
-            let mask = self.places.len() - 1;
-            let mut at = (identity.wrapping_mul(2_654_435_761) >> self.shift) as usize & mask;
-            while self.places[at] != 0 {
-                if self.places[at] == identity {
-                    return false;
-                }
-                at = at + 1 & mask;
-            }
-            self.places[at] = identity;
-            true
-        }
-    }
 
     #[inline(always)]
     fn number(bytes: &[u8], at: usize) -> u32 {
@@ -153,7 +112,7 @@ mod plain {
         }
         let (all, _) = register[HEADER..].as_chunks::<ENTRY>();
         let count = number(register, 0) as usize;
-        if count == 0 || count > ENTRIES {
+        if count == 0 || count > MOST {
             return None;
         }
         all.get(..count)
@@ -161,7 +120,7 @@ mod plain {
 
     // The entries that are open, and the last code of the tour so far.
     struct Walk {
-        open: [(Code, Code); DEEPEST + 1],
+        open: [(Code, Code); DEEPEST as usize + 1],
         level: usize,
         low: Code,
     }
@@ -174,7 +133,7 @@ mod plain {
             if !is_code(&start) || !is_code(&end) || !below(&start, &end) || field(root, PARENT) != [0; 4] {
                 return None;
             }
-            let mut open = [([0; 4], [0; 4]); DEEPEST + 1];
+            let mut open = [([0; 4], [0; 4]); DEEPEST as usize + 1];
             open[0] = (start, end);
             Some(Walk { open, level: 0, low: start })
         }
@@ -195,7 +154,7 @@ mod plain {
             }
             let (parent, last) = &self.open[self.level];
             let sound = below(&self.low, &start) && below(&start, &end) && below(&end, last) && field(entry, PARENT) == *parent;
-            if !sound || self.level == DEEPEST {
+            if !sound || self.level == DEEPEST as usize {
                 return false;
             }
             self.level += 1;
@@ -291,27 +250,11 @@ const QUESTIONS: [(&str, [(&str, Way); WAYS]); 2] = [
     ("plant_depth", [("proved", proved::depth), ("one pass", plain::depth_at_once), ("passes", plain::depth)]),
 ];
 
-const SHAPES: [&str; 3] = ["flat", "random", "chains"];
-
 // A register of a shape with its first labels, identities and tags at random.
 fn register(random: &mut Random, shape: &str, entries: usize) -> Vec<u8> {
-    let mut identities = HashSet::new();
-    let mut table = Vec::new();
-    let mut depth = 0;
-    while identities.len() < entries {
-        let identity = random.next() as u32;
-        if identity == 0 || !identities.insert(identity) {
-            continue;
-        }
-        table.extend([identity, random.next() as u32, depth as u32]);
-        depth = match shape {
-            "flat" => 1,
-            "random" => 1 + random.below(DEEPEST.min(depth + 1)),
-            _ => depth % DEEPEST + 1,
-        };
-    }
+    let table = table(random, shape, entries);
     let mut register = vec![0; HEADER + ENTRY * entries];
-    assert_eq!(proved::label(&table, &mut register), register.len() as i64);
+    assert_eq!(label(&table, &mut register), register.len() as i64);
     register
 }
 
@@ -360,7 +303,7 @@ fn agreed(register: &[u8], identity: u32) -> i32 {
 fn check(random: &mut Random) -> usize {
     let mut sound = 0;
     for shape in SHAPES {
-        for entries in (1..=100).chain([1_000, ENTRIES - 1, ENTRIES]) {
+        for entries in (1..=100).chain([1_000, MOST - 1, MOST]) {
             let first = register(random, shape, entries);
             for register in [lengthened(&first), first] {
                 for i in (0..entries).step_by(1 + entries / 100).chain([entries - 1]) {
@@ -432,7 +375,7 @@ fn main() {
     let mut random = Random(SEED);
     let sound = check(&mut random);
     println!("plant_place, plant_depth. Seed {SEED}. Before timing, every way gave the same answers on registers of 1 to 100 and");
-    println!("up to {ENTRIES} entries in each shape, with first codes and with codes of up to {LONGEST} digits, and on {DAMAGED} of each");
+    println!("up to {MOST} entries in each shape, with first codes and with codes of up to {LONGEST} digits, and on {DAMAGED} of each");
     println!("shape with one change, of which {sound} in all were still sound. Each call asks for the last entry. Caches are warm:");
     println!("one register again and again. {ROUNDS} rounds, each way in turn, the best counts. Both sides are compiled for plain");
     println!("x86-64. Of the ways to write it in Rust the faster is the baseline.");
@@ -440,10 +383,10 @@ fn main() {
         println!();
         println!("{:20} {:>9} {:>9} {:>7} {:>9}   each way in Rust", question, "proved", "Rust", "ratio", "an entry");
         for shape in SHAPES {
-            for entries in [1, 64, 512, ENTRIES] {
+            for entries in [1, 64, 512, MOST] {
                 line(ways, shape, &register(&mut random, shape, entries));
             }
         }
-        line(ways, "random, long", &lengthened(&register(&mut random, "random", ENTRIES)));
+        line(ways, "random, long", &lengthened(&register(&mut random, "random", MOST)));
     }
 }
