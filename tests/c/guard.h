@@ -114,3 +114,21 @@ static int chance(int n)
 {
     return pick(n) == 0;
 }
+
+/* ---- the start of a test ---- */
+
+static unsigned long long seed = 1, rounds;
+
+/* Reads seed and rounds, prints them, and watches for faults. */
+static void start_test(int argc, char **argv, unsigned long long usual_rounds, void (*on_fault)(int))
+{
+    rounds = usual_rounds;
+    if (argc > 1)
+        seed = strtoull(argv[1], NULL, 10);
+    if (argc > 2)
+        rounds = strtoull(argv[2], NULL, 10);
+    setvbuf(stdout, NULL, _IOLBF, 0);
+    printf("seed %llu, rounds %llu\n", seed, rounds);
+    state = seed;
+    start_guards(on_fault);
+}

@@ -52,8 +52,6 @@ static const char possible[CALLS][SEEN] = {
 };
 static unsigned long tally[CALLS][SEEN];
 
-static unsigned long long seed = 1, rounds = 1500;
-
 /* The call under way, for messages. */
 static struct {
     const char *group;
@@ -1081,14 +1079,7 @@ static int report(void)
 
 int main(int argc, char **argv)
 {
-    if (argc > 1)
-        seed = strtoull(argv[1], NULL, 10);
-    if (argc > 2)
-        rounds = strtoull(argv[2], NULL, 10);
-    setvbuf(stdout, NULL, _IOLBF, 0);
-    printf("seed %llu, rounds %llu\n", seed, rounds);
-    state = seed;
-    start_guards(on_fault);
+    start_test(argc, argv, 1500, on_fault);
     make_buffers();
 
     worked_example();

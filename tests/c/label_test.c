@@ -16,18 +16,11 @@
 
 static size_t room;
 
-static const char *group;
-static unsigned long case_number;
-static int side;
-
-static unsigned long long seed = 1, rounds = 2000;
-
 static void print_case(void)
 {
     size_t shown = numbers < 40 * ROW ? numbers : 40 * ROW;
 
-    printf("  seed %llu, rounds %llu, case %lu (%s), buffers %s the guard page\n", seed, rounds, case_number, group,
-           side ? "behind" : "before");
+    print_place();
     printf("  %zu numbers, room %zu; rows:", numbers, room);
     for (size_t i = 0; i < shown; i++)
         printf("%s%u", i % ROW == 0 ? "  " : " ", table[i]);
@@ -39,23 +32,6 @@ static void fail(const char *what, long long got, long long want)
     printf("MISMATCH: %s: %lld, expected %lld\n", what, got, want);
     print_case();
     exit(1);
-}
-
-/* The model fails against 01: no word on the library. */
-static void fail_model(const char *what)
-{
-    printf("THE MODEL IS WRONG: %s\n", what);
-    print_case();
-    exit(1);
-}
-
-static void on_fault(int signal_number)
-{
-    (void)signal_number;
-    put("FAULT: a byte outside a lent buffer was touched, or the table written: seed ");
-    put_number(seed), put(", rounds "), put_number(rounds), put(", case "), put_number(case_number), put(" ("), put(group);
-    put(side ? "), buffers behind the guard page\n" : "), buffers before the guard page\n");
-    _exit(1);
 }
 
 /* ---- the model ---- */
@@ -130,7 +106,7 @@ static char codes[2 * ROWS + 2][LONGEST + 1];
 static void make(char *code, const char *from, int cut, const char *tail)
 {
     if (snprintf(code, LONGEST + 1, "%.*s%s", (int)strlen(from) - cut, from, tail) > LONGEST)
-        fail_model("a code passes 127 digits");
+        fail_test("a code passes 127 digits");
 }
 
 static int ends_in(const char *code, char digit)
@@ -160,7 +136,7 @@ static void make_codes(int p, int q)
         return;
     if (strlen(codes[p]) < strlen(codes[q])) {
         if (!ends_in(codes[q], '2'))
-            fail_model("the longer right side of a gap does not end in 2");
+            fail_test("the longer right side of a gap does not end in 2");
         make(codes[i], codes[q], 1, "12");
         make(codes[j], codes[q], 1, "13");
     } else {
@@ -178,10 +154,10 @@ static void model_register(int rows, uint8_t *to)
     make_codes(0, 2 * rows + 1);
     for (int k = 1; k <= 2 * rows; k++)
         if (strcmp(codes[k - 1], codes[k]) >= 0)
-            fail_model("the codes do not rise along the tour");
+            fail_test("the codes do not rise along the tour");
     link_entries(rows);
     if (tour(0, 0) != 2 * rows)
-        fail_model("the tour does not meet every entry");
+        fail_test("the tour does not meet every entry");
     put_32(to, (uint32_t)rows);
     put_32(to + 4, 0);
     for (int i = 0; i < rows; i++) {
@@ -464,14 +440,7 @@ int main(int argc, char **argv)
 {
     int missing = 0;
 
-    if (argc > 1)
-        seed = strtoull(argv[1], NULL, 10);
-    if (argc > 2)
-        rounds = strtoull(argv[2], NULL, 10);
-    setvbuf(stdout, NULL, _IOLBF, 0);
-    printf("seed %llu, rounds %llu\n", seed, rounds);
-    state = seed;
-    start_guards(on_fault);
+    start_test(argc, argv, 2000, on_fault);
     make_buffers();
 
     vectors();

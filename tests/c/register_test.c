@@ -19,12 +19,6 @@ static uint8_t reg[HEADER + ENTRY * MOST];
 static size_t len;
 static int rows; /* entries that were made, whatever the count says now */
 
-static const char *group;
-static unsigned long case_number;
-static int side;
-
-static unsigned long long seed = 1, rounds = 1000;
-
 static uint32_t get_32(const uint8_t *from)
 {
     return from[0] + 256u * (from[1] + 256u * (from[2] + 256u * from[3]));
@@ -61,8 +55,7 @@ static void print_case(void)
 {
     int shown = rows < 40 ? rows : 40;
 
-    printf("  seed %llu, rounds %llu, case %lu (%s), register %s the guard page\n", seed, rounds, case_number, group,
-           side ? "behind" : "before");
+    print_place();
     printf("  %zu bytes; count %u, then %u; identity, tag, start, end, parent start of %d of %d entries:\n", len, get_32(reg),
            get_32(reg + 4), shown, rows);
     for (int i = 0; i < shown; i++) {
@@ -71,23 +64,6 @@ static void print_case(void)
             print_field(field_at(i, k));
         printf("\n");
     }
-}
-
-/* A register is not what it was made to be: no word on the library. */
-static void fail_test(const char *what)
-{
-    printf("THE TEST IS WRONG: %s\n", what);
-    print_case();
-    exit(1);
-}
-
-static void on_fault(int signal_number)
-{
-    (void)signal_number;
-    put("FAULT: a byte outside the lent register was touched, or the register written: seed ");
-    put_number(seed), put(", rounds "), put_number(rounds), put(", case "), put_number(case_number), put(" ("), put(group);
-    put(side ? "), register behind the guard page\n" : "), register before the guard page\n");
-    _exit(1);
 }
 
 /* ---- the model ---- */
@@ -833,14 +809,7 @@ int main(int argc, char **argv)
 {
     unsigned long missing = 0;
 
-    if (argc > 1)
-        seed = strtoull(argv[1], NULL, 10);
-    if (argc > 2)
-        rounds = strtoull(argv[2], NULL, 10);
-    setvbuf(stdout, NULL, _IOLBF, 0);
-    printf("seed %llu, rounds %llu\n", seed, rounds);
-    state = seed;
-    start_guards(on_fault);
+    start_test(argc, argv, 1000, on_fault);
     make_buffers();
 
     worked_example();

@@ -1,9 +1,40 @@
-/* What the tests of tables and of registers share: random tables, and a register's parts put in their places. Needs guard.h. */
+/* What the tests of tables and of registers share: the case under way, random tables, and a register's parts put in their places. Needs guard.h. */
 
 /* 01's numbers, stated here once more on purpose. */
 enum { LONGEST = 127, FIELD = 32, ROW = 3, ROWS = 4096, DEEPEST = 63, HEADER = 8, ENTRY = 104 };
 
 _Static_assert(PLANT_ROW == ROW && PLANT_ROWS == ROWS && PLANT_HEADER == HEADER && PLANT_ENTRY == ENTRY, "sizes");
+
+/* ---- the case under way ---- */
+
+static const char *group;
+static unsigned long case_number;
+static int side;
+
+static void print_case(void);
+
+static void print_place(void)
+{
+    printf("  seed %llu, rounds %llu, case %lu (%s), %s the guard page\n", seed, rounds, case_number, group,
+           side ? "behind" : "before");
+}
+
+/* The model fails against 01, or a register is not what it was made to be: no word on the library. */
+static void fail_test(const char *what)
+{
+    printf("THE TEST IS WRONG: %s\n", what);
+    print_case();
+    exit(1);
+}
+
+static void on_fault(int signal_number)
+{
+    (void)signal_number;
+    put("FAULT: a byte outside a lent buffer was touched, or an input written: seed ");
+    put_number(seed), put(", rounds "), put_number(rounds), put(", case "), put_number(case_number), put(" ("), put(group);
+    put(side ? "), behind the guard page\n" : "), before the guard page\n");
+    _exit(1);
+}
 
 /* ---- making tables ---- */
 
