@@ -90,6 +90,9 @@ full-code field h = go (read field) refl
     go empty e = let z : _≡_ {A = ℕ} 0 1 = cc in absurd (omega arith)
     go unsound e = let z : _≡_ {A = ℕ} 0 1 = cc in absurd (omega arith)
 
+pub full-known : (field : List ℕ) → kindOf (read field) ≡ Full → Known field (sideOf (read field))
+full-known field h = let e = full-code field h in known-code field (sideOf (read field)) (e ∙ ap (λ (r : Reading). code (sideOf r)) (sym e))
+
 module _ (field lent : List ℕ) where
   pub unpack-empty : kindOf (read field) ≡ Empty → unpackOutcome field lent ≡ refused NoCode lent
   unfolding unpackOutcome

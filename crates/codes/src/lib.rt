@@ -5,8 +5,8 @@ ghost use lib.ListN.{length};
 ghost use Rattle.numbers.specs.Bytes.{put};
 ghost use Rattle.codes.specs.Code.{fieldSize, IsCode, code?};
 ghost use Rattle.codes.specs.Field.{fieldOf, Slots};
-ghost use Rattle.codes.specs.Reading.{read, kindOf};
-ghost use Rattle.codes.specs.Spread.{digitsOf};
+ghost use Rattle.codes.specs.Reading.{read, kindOf, sideOf};
+ghost use Rattle.codes.specs.Spread.{digitsOf, Held, Short};
 ghost use Rattle.codes.specs.Calls.{packOutcome, unpackOutcome, sidesOf, betweenOutcome};
 
 mod field;
@@ -107,6 +107,15 @@ fn between_sides(left: &[u8], right: &[u8], field: &mut [u8]) -> Answer
     let digits = made.digits;
     write_field(field, &digits[..n]);
     Answer::Accepted(n)
+}
+
+// The code that a field holds, spread out.
+pub fn code_of(field: &[u8]) -> Code
+    requires full { ⌜ kindOf (read (now field)) ≡ Kind.Full ⌝ }
+    ensures held { λ r. ⌜ Held r (sideOf (read (now (field .entry)))) ⌝ }
+    ensures short { λ r. ⌜ Short r ⌝ }
+{
+    spread::of_field(field)
 }
 
 // How two fields stand to each other as the sides of a gap.

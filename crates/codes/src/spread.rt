@@ -31,6 +31,13 @@ impl Code {
         }
     }
 
+    // The number of digits.
+    pub fn len(self) -> usize
+        ensures len { λ r. ⌜ r ≡ self .count ⌝ }
+    {
+        self.count
+    }
+
     // One digit more.
     fn with_last(mut self, digit: u8) -> Self
         requires room { ⌜ Short self ⌝ }

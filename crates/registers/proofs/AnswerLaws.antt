@@ -3,7 +3,7 @@
 use mathlib.Core.Path.{_≡_, refl, sym, ap, _∙_, subst}
 use mathlib.Core.Logic.{inl, inr, _≢_, _↔_}
 use mathlib.Core.Bool.{Bool, true, false, cond, _&&_, and-eq-true-iff}
-use mathlib.Core.List.{List, [], _∷_, _++_}
+use mathlib.Core.List.{List, [], _∷_, _++_, map}
 use Prim.Native.Nat.{ℕ, zero, suc, _+_, _≤_, _<_}
 use native.Mathlib.Omega.{arith}
 use lib.Dec.{eqb}
@@ -14,31 +14,34 @@ use Rattle.digits.specs.Order.{Digits, Below, below?}
 use Rattle.digits.specs.Code.{Rising}
 use Rattle.digits.proofs.OrderLaws.{below-irrefl, below-trans, below-asym, below?-true, below?-false}
 use Rattle.answers.specs.Signed.{yesNo}
-use Rattle.codes.specs.Code.{fieldSize}
+use Rattle.codes.specs.Code.{fieldSize, IsCode}
 use Rattle.codes.specs.Reading.{read, sideOf}
 use Rattle.labels.specs.Label.{startAt, endAt, labelSize, fieldAt, labelOf}
 use Rattle.labels.specs.Questions.{above?, asked, aboveAnswer}
 use Rattle.labels.proofs.LabelLaws.{below?-holds}
 use Rattle.trees.specs.Lists.{Member}
-use Rattle.trees.specs.Forest.{Forest, nil, node, preorder}
+use Rattle.trees.specs.Forest.{Forest, nil, node, preorder, Rooted}
 use Rattle.trees.specs.Axes.{Has, Ancestor, Depth}
-use Rattle.trees.specs.Table.{rows}
+use Rattle.trees.specs.Table.{rows, forest}
 use Rattle.trees.specs.Tour.{tour}
-use Rattle.trees.specs.Labelled.{Name, Entry, starts, ends}
-use Rattle.trees.proofs.ListLaws.{all-append, member-left, member-right}
+use Rattle.trees.specs.Labelled.{Name, Entry, starts, ends, codes, Sound}
+use Rattle.trees.proofs.ListLaws.{→all, all-append, member-left, member-right}
 use Rattle.trees.proofs.ForestLaws.{has→all}
-use Rattle.trees.proofs.DepthLaws.{row-depth}
+use Rattle.trees.proofs.DistinctLaws.{one-depth}
+use Rattle.trees.proofs.TableLaws.{forest-rows, preorder-rows}
+use Rattle.trees.proofs.DepthLaws.{depth-has, row-depth}
 use Rattle.trees.proofs.TourLaws.{under-real, at, inside}
-use Rattle.trees.proofs.KinLaws.{above-codes}
+use Rattle.trees.proofs.KinLaws.{rises-distinct, above-codes}
 use Rattle.registers.specs.Holds.{identities, Holds}
 use Rattle.registers.specs.declared.Found.the-variants.{At, Nothing}
-use Rattle.registers.specs.Layout.{entryPlace, labelAt}
+use Rattle.registers.specs.Layout.{deepest, entryPlace, labelAt}
 use Rattle.registers.specs.Entries.{codeAt}
 use Rattle.registers.specs.Sound.{labelBytes, soundLabel?, lineAt}
-use Rattle.registers.specs.Questions.{countOf, linesOf, registerSound?, foundFrom, foundIn, aboveEntry?, depthIn}
+use Rattle.registers.specs.Questions.{countOf, linesOf, registerSound?, foundFrom, foundIn, aboveEntry?, depthIn, treeOf}
 use Rattle.registers.proofs.SoundLaws.{label-field}
+use Rattle.registers.proofs.TreeLaws.{tree-lined}
 use Rattle.registers.proofs.HoldsLaws.{lines-held}
-use Rattle.registers.proofs.QuestionLaws.{labels-sound, above-is, at-is, nothing-at, found-from}
+use Rattle.registers.proofs.QuestionLaws.{parts-of, labels-sound, above-is, at-is, nothing-at, found-from}
 
 -- an entry is above another by the test exactly where it is its ancestor
 pub above-ancestor : (b : List ℕ) (f : Forest (Entry Name)) → Holds b f → (u v : Entry Name) → Has u f → Has v f
@@ -119,12 +122,49 @@ depth-row (node a c s) l r d h v (inr (inr k)) =
     (subst (λ (z : ℕ). Member (v, z) (rows d s)) m (depth-row s (a .end) r d (t .next) v k)))
 
 -- the depth that is answered is the depth in the tree
+depth-of : (f : Forest (Entry Name)) → Rising [] (codes f) [] → (v : Entry Name) → Has v f → Depth v (depthIn v (preorder f)) f
+depth-of f h v k =
+    let e : 0 + depthIn v (preorder f) ≡ depthIn v (preorder f) = omega arith in
+    row-depth f v _ (subst (λ (z : ℕ). Member (v, z) (rows 0 f)) e (depth-row f [] [] 0 h v k))
+
 pub depth-held : (b : List ℕ) (f : Forest (Entry Name)) → Holds b f → (v : Entry Name) → Has v f → Depth v (depthIn v (linesOf b)) f
 depth-held b f h v k =
-    subst (λ us. Depth v (depthIn v us) f) (sym (lines-held b f h))
-    (row-depth f v _ (subst (λ (z : ℕ). Member (v, z) (rows 0 f)) (let e : 0 + depthIn v (preorder f) ≡ depthIn v (preorder f) =
-    omega arith in e)
-    (depth-row f [] [] 0 (h .whole .sound .rising) v k)))
+    subst (λ us. Depth v (depthIn v us) f) (sym (lines-held b f h)) (depth-of f (h .whole .sound .rising) v k)
+
+-- the rows of a tree are its lines with their depths, so that it is the tree that the lines stand for
+named : (g : Entry Name → ℕ) (t : List (Entry Name × ℕ)) → All (λ p. p .1 ≡ g (p .0)) t
+    → t ≡ map (λ u. (u, g u)) (map (λ p. p .0) t)
+named g [] a = refl
+named g ((u, n) ∷ t) a = rw (a .0, sym (named g t (a .1))) refl
+
+pub tree-lines : (f : Forest (Entry Name)) → Rising [] (codes f) [] → treeOf (preorder f) ≡ f
+unfolding treeOf
+tree-lines f h =
+    let us = preorder f in
+    let d = rises-distinct starts ends f h in
+    let a : All (λ p. p .1 ≡ depthIn (p .0) us) (rows 0 f) =
+    →all (λ p. p .1 ≡ depthIn (p .0) us) (rows 0 f) (λ p m. let i = row-depth f (p .0) (p .1) m in
+    one-depth f d (p .1) (depthIn (p .0) us) (p .0) i (depth-of f h (p .0) (depth-has f (p .0) (p .1) i))) in
+    ap forest (sym (named (λ u. depthIn u us) (rows 0 f) a ∙ ap (map (λ u. (u, depthIn u us))) (preorder-rows 0 f))) ∙ forest-rows f
+
+-- the tree of a sound register
+pub record Stands (b : List ℕ) : Type 0 where
+  pub rooted : Rooted (treeOf (linesOf b))
+  pub entries : preorder (treeOf (linesOf b)) ≡ linesOf b
+  pub sound : Sound IsCode (suc deepest) [] [] [] (treeOf (linesOf b))
+
+pub tree-stands : (b : List ℕ) → registerSound? b ≡ true → Stands b
+tree-stands b e =
+    let t = tree-lined b (countOf b) (parts-of b e .tree) in
+    let i : t .tree ≡ treeOf (linesOf b) = sym (tree-lines (t .tree) (t .sound .rising)) ∙ ap treeOf (t .entries) in
+    record {
+      rooted = subst Rooted i (t .rooted);
+      entries = ap preorder (sym i) ∙ t .entries;
+      sound = subst (Sound IsCode (suc deepest) [] [] []) i (t .sound);
+    }
+
+pub tree-held : (b : List ℕ) (f : Forest (Entry Name)) → Holds b f → treeOf (linesOf b) ≡ f
+tree-held b f h = ap treeOf (lines-held b f h) ∙ tree-lines f (h .whole .sound .rising)
 
 -- the place that is answered is that of the identity in document order, and an identity with no place is not there
 found-is : (ys : List ℕ) (x i j : ℕ) → foundFrom i x ys ≡ At (i + j) → getD ys j 0 ≡ x

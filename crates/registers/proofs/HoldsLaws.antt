@@ -17,6 +17,7 @@ use Rattle.trees.specs.Forest.{Forest, nil, node, preorder, Rooted}
 use Rattle.trees.specs.Labelled.{Name, Entry, Tree}
 use Rattle.trees.proofs.ForestLaws.{length-preorder}
 use Rattle.trees.proofs.UniqueLaws.{one-tree}
+use Rattle.trees.proofs.SearchLaws.{starts-all}
 use Rattle.registers.specs.Layout.{deepest, entrySize, entryPlace, zeroAt}
 use Rattle.registers.specs.Entries.{entriesBytes, registerBytes}
 use Rattle.registers.specs.Holds.{identities, Holds}
@@ -26,7 +27,7 @@ use Rattle.registers.proofs.SoundLaws.{part-of}
 use Rattle.registers.proofs.RowLaws.{lines-length}
 use Rattle.registers.proofs.EntryLaws.{entries-length, register-length}
 use Rattle.registers.proofs.BytesLaws.{Bytes, register-bytes}
-use Rattle.registers.proofs.TreeLaws.{tree-lined, lined-tree, coded-starts, tree-labels}
+use Rattle.registers.proofs.TreeLaws.{tree-lined, lined-tree, tree-labels}
 use Rattle.registers.proofs.ReadLaws.{number-of, lines-read}
 use Rattle.registers.proofs.QuestionLaws.{sized→, sized-entries, parts-of, by-zero, by-tree}
 
@@ -45,7 +46,7 @@ sound-holds b y e =
     let q : preorder (t .tree) ≡ us = t .entries in
     let i = all-new→ (identities us) (p .new) in
     let l : length us ≡ n = lines-length b 0 n in
-    let c = subst (All (λ (u : Entry Name). IsCode (u .start))) q (coded-starts (t .tree) (t .sound .coded)) in
+    let c = subst (All (λ (u : Entry Name). IsCode (u .start))) q (starts-all IsCode (t .tree) (t .sound .coded)) in
     let r : registerBytes us ≡ take (entryPlace n) b = register-bytes b n y (sized-entries b s) refl (s .zeroed) c in
     let w : length (registerBytes us) ≡ entryPlace n = register-length us ∙ ap entryPlace l in
     record {

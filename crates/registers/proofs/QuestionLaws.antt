@@ -27,6 +27,7 @@ use Rattle.identities.specs.Rows.{allNew?}
 use Rattle.trees.specs.Labelled.{Name, Entry}
 use Rattle.registers.specs.declared.Found.{Found}
 use Rattle.registers.specs.declared.Found.the-variants.{At, Nothing}
+use Rattle.trees.proofs.SearchLaws.{starts-all}
 use Rattle.registers.specs.Layout.{mostEntries, zeroAt, headerSize, entryPlace, identityAt, startPlace, endPlace}
 use Rattle.registers.specs.Entries.{entryAt, codeAt}
 use Rattle.registers.specs.Holds.{identities}
@@ -34,7 +35,7 @@ use Rattle.registers.specs.Sound.{soundLabel?, lineAt, linesFrom, tree?,
 use Rattle.registers.specs.Questions.{countOf, linesOf, sized?, registerSound?, foundFrom, foundIn, aboveEntry?, depthIn, placeAs, placeAnswer, depthAs, depthAnswer, distanceAs, distanceAnswer}
 use Rattle.registers.proofs.RowLaws.{line-start, line-end, lines-length, lines-next}
 use Rattle.registers.proofs.BytesLaws.{coded-sound}
-use Rattle.registers.proofs.TreeLaws.{tree-lined, coded-starts}
+use Rattle.registers.proofs.TreeLaws.{tree-lined}
 
 -- the identity of a line, whatever its label
 blank-name : (t : Bool) (u v : Entry Name) → v .name ≡ u .name → cond t u v .name ≡ u .name
@@ -153,7 +154,7 @@ identity-next b all i v h e f =
 pub labels-sound : (b : List ℕ) (i : ℕ) → registerSound? b ≡ true → i < countOf b → soundLabel? b i ≡ true
 labels-sound b i e h =
     let t = tree-lined b (countOf b) (parts-of b e .tree) in
-    let a = subst (All (λ (u : Entry Name). IsCode (u .start))) (t .entries) (coded-starts (t .tree) (t .sound .coded)) in
+    let a = subst (All (λ (u : Entry Name). IsCode (u .start))) (t .entries) (starts-all IsCode (t .tree) (t .sound .coded)) in
     let d : Entry Name = lineAt b 0 in
     coded-sound b i
     (subst (λ (u : Entry Name). IsCode (u .start)) (line-at b (countOf b) 0 i d h ∙ ap (lineAt b) (let z : 0 + i ≡ i = omega arith in z))

@@ -16,7 +16,7 @@ use Rattle.codes.specs.declared.field.Kind.the-variants.{Full, Empty, Unsound}
 use Rattle.codes.specs.Reading.{read, sideOf, kindOf, same?}
 use Rattle.codes.proofs.ReadingLaws.{read-field, read-nothing, same?-field}
 use Rattle.labels.specs.Label.{labelSize, startAt, endAt, parentAt, fieldAt, codeHeld?, labelOf}
-use Rattle.labels.proofs.LabelLaws.{sound→, held-below}
+use Rattle.labels.proofs.LabelLaws.{sound→, held-code, held-below}
 use Rattle.registers.specs.Layout.{entryPlace, labelAt, startPlace, endPlace, parentPlace, HasPlace}
 use Rattle.registers.specs.Entries.{codeAt}
 use Rattle.registers.specs.Sound.{labelBytes, soundLabel?, CodeAt, SideAt, HasEntries, HasLabel}
@@ -77,6 +77,10 @@ sound-at b i h t =
       inner = subst (λ f. Below (code f) (codeAt b (endPlace i))) es (subst
           (λ f. Below (code (fieldAt startAt (labelBytes b i))) (code f)) ee (s .spans));
     }
+
+-- a field that holds a code is full
+pub code-full : (b f : List ℕ) (at : ℕ) → CodeAt b at → f ≡ fieldAt at b → kindOf (read f) ≡ Full
+code-full b f at h e = ap (λ (z : List ℕ). kindOf (read z)) e ∙ ap kindOf (held-code (read (fieldAt at b)) (h .1))
 
 -- two fields compare as their codes
 pub codes-below : (b f g : List ℕ) (x y : ℕ) → CodeAt b x → CodeAt b y → f ≡ fieldAt x b → g ≡ fieldAt y b

@@ -9,7 +9,6 @@ use borrow.Author.Tests.{ltb-true, lt-ltb}
 use Rattle.digits.specs.Lists.{All}
 use Rattle.digits.specs.Order.{Digits, Below, below?}
 use Rattle.digits.proofs.OrderLaws.{below?-true, below-trans}
-use Rattle.digits.proofs.ListLaws.{all-part}
 use Rattle.codes.specs.Code.{IsCode, code?}
 use Rattle.codes.specs.Reading.{same?}
 use Rattle.codes.proofs.TestLaws.{code?-true, true-code?}
@@ -67,13 +66,6 @@ facts-are k p l r f h = record { rising = h .rising; coded = h .coded; parented 
 
 are-facts : (k : ℕ) (p l r : Digits) (f : Forest (Entry Name)) → Sound IsCode k p l r f → Fact k p l r f
 are-facts k p l r f h = record { rising = h .rising; coded = h .coded; parented = h .parented; height = h .height }
-
--- the starts of entries are among the codes along the tour
-pub coded-starts : (f : Forest (Entry Name)) → All IsCode (codes f) → All (λ (u : Entry Name). IsCode (u .start)) (preorder f)
-coded-starts nil a = tt
-coded-starts (node u c s) a =
-    let q = all-part IsCode (codes c) (codes s) (u .end) (a .1) in
-    (a .0, all-append _ (preorder c) (preorder s) (coded-starts c (q .0)) (coded-starts s (q .2)))
 
 -- a label as 01 asks it of any entry of a sound register
 pub record Label (u : Entry Name) : Type 0 where

@@ -1,6 +1,6 @@
 -- A sound register as one test, and the questions on a register: place, depth, distance. Assumes nothing.
 use mathlib.Core.Bool.{Bool, cond, _&&_}
-use mathlib.Core.List.{List, [], _∷_}
+use mathlib.Core.List.{List, [], _∷_, map}
 use Prim.Native.Nat.{ℕ, suc, _+_}
 use lib.Dec.{eqb, leb}
 use lib.IntN.{ℤ, pos, _-ℤ_}
@@ -13,6 +13,8 @@ use Rattle.answers.specs.Number.{numberOf}
 use Rattle.answers.specs.Signed.{refusedAs}
 use Rattle.identities.specs.Rows.{allNew?}
 use Rattle.numbers.specs.Bytes.{numberAt}
+use Rattle.trees.specs.Forest.{Forest}
+use Rattle.trees.specs.Table.{forest}
 use Rattle.trees.specs.Labelled.{Name, Entry}
 use Rattle.registers.specs.declared.Found.{Found}
 use Rattle.registers.specs.declared.Found.the-variants.{At, Nothing}
@@ -62,6 +64,10 @@ aboveEntry? u v = below? (u .start) (v .start) && below? (v .end) (u .end)
 abbrev pub depthIn : Entry Name → List (Entry Name) → ℕ
 depthIn v [] = 0
 depthIn v (u ∷ us) = cond (aboveEntry? u v) 1 0 + depthIn v us
+
+-- the tree that lines stand for: that of the table of the lines with their depths
+unfoldable pub treeOf : List (Entry Name) → Forest (Entry Name)
+treeOf us = forest (map (λ u. (u, depthIn u us)) us)
 
 abbrev pub depthAs : List ℕ → Found → ℤ
 depthAs bytes (At i) = pos (depthIn (lineAt bytes i) (linesOf bytes))

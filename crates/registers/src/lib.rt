@@ -24,6 +24,11 @@ use labels::END;
 use labels::LABEL;
 use labels::PARENT;
 use labels::START;
+pub use walk::code_at;
+pub use walk::end_place;
+pub use walk::fields_below;
+pub use walk::parent_place;
+pub use walk::start_place;
 
 // The largest number of entries and the largest depth.
 pub const MOST: usize = 4096;
@@ -158,7 +163,7 @@ fn identity(register: &[u8], i: usize) -> u32
 }
 
 // Looks for an identity among the counted entries.
-fn find(register: &[u8], x: u32) -> Found
+pub fn find(register: &[u8], x: u32) -> Found
     requires sized { ⌜ sized? (now register) ≡ true ⌝ }
     ensures found { λ r. ⌜ r ≡ foundIn (now (register .entry)) x ⌝ }
 {
@@ -174,7 +179,7 @@ fn find(register: &[u8], x: u32) -> Found
 }
 
 // The number of entries above the one at a place.
-fn depth_at(register: &[u8], place: usize) -> usize
+pub fn depth_at(register: &[u8], place: usize) -> usize
     requires sound { ⌜ registerSound? (now register) ≡ true ⌝ }
     requires place { ⌜ place < countOf (now register) ⌝ }
     ensures depth { λ r. ⌜ r ≡ depthIn (lineAt (now (register .entry)) place) (linesOf (now (register .entry))) ⌝ }
@@ -197,7 +202,7 @@ fn one(yes: bool) -> usize
 }
 
 // Where entry i begins.
-fn entry_place(i: usize) -> usize
+pub fn entry_place(i: usize) -> usize
     requires most { ⌜ i ≤ mostEntries ⌝ }
     ensures place { λ r. ⌜ r ≡ entryPlace i ⌝ }
 {

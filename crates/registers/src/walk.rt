@@ -5,6 +5,7 @@ ghost use mathlib.Core.List.{[]};
 ghost use Prim.Native.Nat.{_+_, _≤_, _<_};
 ghost use Rattle.digits.specs.Order.{below?};
 ghost use Rattle.codes.specs.Reading.{same?};
+ghost use Rattle.codes.specs.Spread.{Held, Short};
 ghost use Rattle.registers.specs.Layout.{mostEntries, startPlace, endPlace, parentPlace, HasPlace};
 ghost use Rattle.registers.specs.Entries.{codeAt};
 ghost use Rattle.registers.specs.Sound.{labelBytes, soundLabel?, lineAt, tree?, childrenFrom, entryFrom, CodeAt, SideAt, HasEntries, HasLabel};
@@ -12,6 +13,7 @@ use crate::DEEPEST;
 use crate::ENTRY_LABEL;
 use crate::entry_place;
 ghost use Rattle.registers.specs.Questions.{aboveEntry?};
+use codes::Code;
 use codes::Kind;
 use labels::END;
 use labels::LABEL;
@@ -141,7 +143,7 @@ pub(crate) fn above(register: &[u8], i: usize, j: usize) -> bool
 }
 
 // The code of one field is below that of another.
-fn fields_below(register: &[u8], x: usize, y: usize) -> bool
+pub fn fields_below(register: &[u8], x: usize, y: usize) -> bool
     requires codes { ⌜ CodeAt (now register) x × CodeAt (now register) y ⌝ }
     ensures below { λ r. ⌜ r ≡ below? (codeAt (now (register .entry)) x) (codeAt (now (register .entry)) y) ⌝ }
 {
@@ -154,6 +156,15 @@ fn fields_same(register: &[u8], x: usize, y: usize) -> bool
     ensures same { λ r. ⌜ r ≡ same? (codeAt (now (register .entry)) x) (codeAt (now (register .entry)) y) ⌝ }
 {
     codes::same(labels::field(register, x), labels::field(register, y))
+}
+
+// The code of a field, spread out.
+pub fn code_at(register: &[u8], at: usize) -> Code
+    requires code { ⌜ CodeAt (now register) at ⌝ }
+    ensures held { λ r. ⌜ Held r (codeAt (now (register .entry)) at) ⌝ }
+    ensures short { λ r. ⌜ Short r ⌝ }
+{
+    codes::code_of(labels::field(register, at))
 }
 
 fn sound_label(register: &[u8], i: usize) -> bool
@@ -172,21 +183,21 @@ fn label(register: &[u8], i: usize) -> &[u8]
     &register[at..end]
 }
 
-fn start_place(i: usize) -> usize
+pub fn start_place(i: usize) -> usize
     requires most { ⌜ i ≤ mostEntries ⌝ }
     ensures place { λ r. ⌜ r ≡ startPlace i ⌝ }
 {
     entry_place(i) + ENTRY_LABEL + START
 }
 
-fn end_place(i: usize) -> usize
+pub fn end_place(i: usize) -> usize
     requires most { ⌜ i ≤ mostEntries ⌝ }
     ensures place { λ r. ⌜ r ≡ endPlace i ⌝ }
 {
     entry_place(i) + ENTRY_LABEL + END
 }
 
-fn parent_place(i: usize) -> usize
+pub fn parent_place(i: usize) -> usize
     requires most { ⌜ i ≤ mostEntries ⌝ }
     ensures place { λ r. ⌜ r ≡ parentPlace i ⌝ }
 {

@@ -15,14 +15,8 @@ use Rattle.trees.specs.Forest.{Forest, nil, node, preorder, Rooted, Heig
 use Rattle.trees.specs.Tour.{tour, Parents}
 use Rattle.trees.specs.Check.{InPlace, rest, thenFrom, whole?, rowWalk, treeWalk?}
 use Rattle.trees.proofs.ListLaws.{all-left, all-right}
-use Rattle.trees.proofs.TourLaws.{under-real, rising-under, at}
+use Rattle.trees.proofs.TourLaws.{under-real, rising-under, rising-joined, at}
 use Rattle.trees.proofs.WalkLaws.{→under?, →beyond?, whole?→, Good, walk-read, row-none, row-out, row-on}
-
--- two rising lists with a code between them, which is no open side
-rising-joined : (l m r : Digits) (xs ys : List Digits) (z : Digits) → Below z m → Rising l xs m → Rising m ys r
-    → Rising l (xs ++ (m ∷ ys)) r
-rising-joined l m r [] ys z b h k = (under-real z l m b h, k)
-rising-joined l m r (x ∷ xs) ys z b h k = (h .0, rising-joined x m r xs ys z b (h .1) k)
 
 module _ {A : Type 0} (Code : Digits → Type 0) (st en ps : A → Digits) where
   -- 01, Register, of a row with its children: at most k levels, parent start p, strictly between the sides l and r

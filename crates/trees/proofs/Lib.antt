@@ -9,6 +9,10 @@ pub mod TourLaws
 pub mod KinLaws
 pub mod UniqueLaws
 pub mod LabelledLaws
+pub mod EditLaws
+pub mod NeighbourLaws
+pub mod PlaceLaws
+pub mod SearchLaws
 pub mod Examples
 pub mod WalkLaws
 pub mod CheckLaws

@@ -39,6 +39,12 @@ pub rising-right : (l x r : Digits) (xs ys : List Digits) → Rising l (xs ++ (x
 rising-right l x r [] ys h = h .1
 rising-right l x r (z ∷ xs) ys h = rising-right z x r xs ys (h .1)
 
+-- two rising lists with a code between them, which is no open side
+pub rising-joined : (l m r : Digits) (xs ys : List Digits) (z : Digits) → Below z m → Rising l xs m → Rising m ys r
+    → Rising l (xs ++ (m ∷ ys)) r
+rising-joined l m r [] ys z b h k = (under-real z l m b h, k)
+rising-joined l m r (x ∷ xs) ys z b h k = (h .0, rising-joined x m r xs ys z b (h .1) k)
+
 -- from link by link to all pairs
 rising-all : (z l : Digits) (xs : List Digits) (r : Digits) → Below z l → Rising l xs r → All (Below z) xs
 rising-all z l [] r b h = tt

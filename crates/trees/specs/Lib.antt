@@ -6,4 +6,7 @@ pub mod Table
 pub mod Tour
 pub mod Questions
 pub mod Labelled
+pub mod Edit
+pub mod Neighbours
+pub mod Search
 pub mod Check
