@@ -137,15 +137,18 @@ named : (g : Entry Name → ℕ) (t : List (Entry Name × ℕ)) → All (λ p. p
 named g [] a = refl
 named g ((u, n) ∷ t) a = rw (a .0, sym (named g t (a .1))) refl
 
-pub tree-lines : (f : Forest (Entry Name)) → Rising [] (codes f) [] → treeOf (preorder f) ≡ f
-unfolding treeOf
-tree-lines f h =
+pub rows-lines : (f : Forest (Entry Name)) → Rising [] (codes f) [] → rows 0 f ≡ map (λ u. (u, depthIn u (preorder f))) (preorder f)
+rows-lines f h =
     let us = preorder f in
     let d = rises-distinct starts ends f h in
     let a : All (λ p. p .1 ≡ depthIn (p .0) us) (rows 0 f) =
     →all (λ p. p .1 ≡ depthIn (p .0) us) (rows 0 f) (λ p m. let i = row-depth f (p .0) (p .1) m in
     one-depth f d (p .1) (depthIn (p .0) us) (p .0) i (depth-of f h (p .0) (depth-has f (p .0) (p .1) i))) in
-    ap forest (sym (named (λ u. depthIn u us) (rows 0 f) a ∙ ap (map (λ u. (u, depthIn u us))) (preorder-rows 0 f))) ∙ forest-rows f
+    named (λ u. depthIn u us) (rows 0 f) a ∙ ap (map (λ u. (u, depthIn u us))) (preorder-rows 0 f)
+
+pub tree-lines : (f : Forest (Entry Name)) → Rising [] (codes f) [] → treeOf (preorder f) ≡ f
+unfolding treeOf
+tree-lines f h = ap forest (sym (rows-lines f h)) ∙ forest-rows f
 
 -- the tree of a sound register
 pub record Stands (b : List ℕ) : Type 0 where

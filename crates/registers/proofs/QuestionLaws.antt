@@ -129,7 +129,7 @@ module _ (b : List ℕ) where
       record { sized = a .0; new = c .0; tree = c .1 }
 
 -- a line by its number, and one line more
-line-at : (b : List ℕ) (m i j : ℕ) (d : Entry Name) → j < m → getD (linesFrom b i m) j d ≡ lineAt b (i + j)
+pub line-at : (b : List ℕ) (m i j : ℕ) (d : Entry Name) → j < m → getD (linesFrom b i m) j d ≡ lineAt b (i + j)
 line-at b zero i j d h = absurd (omega arith)
 line-at b (suc m) i zero d h = let e : i + 0 ≡ i = omega arith in ap (lineAt b) (sym e)
 line-at b (suc m) i (suc j) d h = let e : suc i + j ≡ i + suc j = omega arith in line-at b m (suc i) j d (omega arith) ∙ ap (lineAt b) e

@@ -14,7 +14,7 @@ unfolding fieldOf
 field-empty = refl
 
 -- a run behind another
-run-after : (b : List ℕ) (a k : ℕ) (v w : List ℕ) → a ≤ length b → k ≡ a + length v → put (put b a v) k w ≡ put b a (v ++ w)
+pub run-after : (b : List ℕ) (a k : ℕ) (v w : List ℕ) → a ≤ length b → k ≡ a + length v → put (put b a v) k w ≡ put b a (v ++ w)
 run-after b a k v w room e = ap (λ (z : ℕ). put (put b a v) z w) e ∙ put-put b a v room w
 
 -- four runs, one behind the other
@@ -34,5 +34,20 @@ four-runs b b₁ b₂ b₃ b₄ v₁ v₂ v₃ v₄ a a₁ a₂ a₃ a₄ room p
       run-after b a a₂ v₁ v₂ room q,
       run-after b a a₃ (v₁ ++ v₂) v₃ room (omega arith),
       run-after b a a₄ ((v₁ ++ v₂) ++ v₃) v₄ room (omega arith),
+    )
+    (simp append-assoc)
+
+-- and a fifth
+pub five-runs : (b b₁ b₂ b₃ b₄ b₅ v₁ v₂ v₃ v₄ v₅ : List ℕ) (a a₁ a₂ a₃ a₄ a₅ : ℕ) → a ≤ length b
+    → a₁ ≡ a → a₂ ≡ a + length v₁ → a₃ ≡ a₂ + length v₂ → a₄ ≡ a₃ + length v₃ → a₅ ≡ a₄ + length v₄
+    → b₁ ≡ put b a₁ v₁ → b₂ ≡ put b₁ a₂ v₂ → b₃ ≡ put b₂ a₃ v₃ → b₄ ≡ put b₃ a₄ v₄ → b₅ ≡ put b₄ a₅ v₅
+    → b₅ ≡ put b a (v₁ ++ (v₂ ++ (v₃ ++ (v₄ ++ v₅))))
+five-runs b b₁ b₂ b₃ b₄ b₅ v₁ v₂ v₃ v₄ v₅ a a₁ a₂ a₃ a₄ a₅ room p q r s t e f g h i =
+    let w : List ℕ = v₁ ++ (v₂ ++ (v₃ ++ v₄)) in
+    let l : length w ≡ length v₁ + (length v₂ + (length v₃ + length v₄)) = simp length-append in
+    rw (
+      i,
+      four-runs b b₁ b₂ b₃ b₄ v₁ v₂ v₃ v₄ a a₁ a₂ a₃ a₄ room p q r s e f g h,
+      run-after b a a₅ w v₅ room (omega arith),
     )
     (simp append-assoc)

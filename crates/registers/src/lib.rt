@@ -10,6 +10,7 @@ ghost use Rattle.codes.specs.Field.{fieldOf};
 ghost use Rattle.codes.specs.Spread.{digitsOf};
 ghost use Rattle.labels.specs.Label.{fieldAt};
 ghost use Rattle.identities.specs.Rows.{allNew?};
+ghost use Rattle.registers.specs.Entries.{entryBytes};
 ghost use Rattle.registers.specs.Holds.{identities};
 ghost use Rattle.registers.specs.Sound.{lineAt, linesFrom, HasEntries};
 ghost use Rattle.registers.specs.Questions.{countOf, linesOf, sized?, registerSound?, foundIn, depthIn, placeAnswer, depthAnswer, distanceAnswer};
@@ -240,6 +241,36 @@ pub fn write_end(register: &mut [u8], i: usize, end: Code)
     ensures bytes { λ _. ⌜ now (register .exit) ≡ put (now (register .entry)) (endPlace i) (fieldOf (digitsOf end)) ⌝ }
 {
     codes::write_code(register, entry_place(i) + ENTRY_LABEL + END, end);
+}
+
+// Leaves entry i whole.
+pub fn write_entry(
+    register: &mut [u8],
+    i: usize,
+    identity: u32,
+    tag: u32,
+    start: Code,
+    end: Code,
+    parent: Code,
+)
+    requires place { ⌜ HasPlace (now register) i ⌝ }
+    requires start { ⌜ IsCode (digitsOf start) ⌝ }
+    requires end { ⌜ IsCode (digitsOf end) ⌝ }
+    requires parent { ⌜ IsCode (digitsOf parent) ⌝ }
+    ensures bytes { λ _. ⌜ now (register .exit) ≡ put (now (register .entry)) (entryPlace i)
+        (entryBytes (record {
+          name = record { identity = identity; tag = tag };
+          start = digitsOf start;
+          end = digitsOf end;
+          parent = digitsOf parent;
+        })) ⌝ }
+{
+    let at = entry_place(i);
+    numbers::write_u32(register, at + IDENTITY, identity);
+    numbers::write_u32(register, at + TAG, tag);
+    codes::write_code(register, at + ENTRY_LABEL + START, start);
+    codes::write_code(register, at + ENTRY_LABEL + END, end);
+    codes::write_code(register, at + ENTRY_LABEL + PARENT, parent);
 }
 
 // Leaves an empty parent start in entry i.

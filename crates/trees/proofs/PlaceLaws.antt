@@ -82,20 +82,20 @@ module _ {A : Type 0} where
     level = omega (arith, front-level s);
   }
 
-  abbrev rowAt : ℕ → Forest (Entry A) → ℕ → Entry A → Entry A × ℕ
-  rowAt d f i z = getD (rows d f) i (z, 0)
+  abbrev rowAt : ℕ → Forest (Entry A) → ℕ → Entry A × ℕ → Entry A × ℕ
+  rowAt d f i z = getD (rows d f) i z
 
   abbrev Placed : Where → Forest (Entry A) → ℕ → Type 0
   Placed w f i =
-      (z : Entry A) (l r p : Digits) (d : ℕ) → Parents starts parents p f
+      (z : Entry A × ℕ) (l r p : Digits) (d : ℕ) → Parents starts parents p f
       → Beside w (rowAt d f i z .0) (rowAt d f i z .1) l r p d f (spotOf w i f)
 
   beside-down : (w : Where) (u : Entry A) (c s : Forest (Entry A)) (i : ℕ) → i < size c → Placed w c i → Placed w (node u c s) (suc i)
   beside-down w u c s i h t z l r p d k =
       let b = t z (u .start) (u .end) (u .start) (suc d) (k .1) in
       let m : i < length (rows (suc d) c) = rw (length-rows (suc d) c) h in
-      let e : getD (rows (suc d) c ++ rows d s) i (z, 0) ≡ getD (rows (suc d) c) i (z, 0) =
-      List·getD-append (rows (suc d) c) (rows d s) (z, 0) i m in
+      let e : getD (rows (suc d) c ++ rows d s) i z ≡ getD (rows (suc d) c) i z =
+      List·getD-append (rows (suc d) c) (rows d s) z i m in
       rw (e, spot-down u c s i h w)
       (record {
         own = own-right (upward? w) (ownCode w _) _ _ _
@@ -107,9 +107,9 @@ module _ {A : Type 0} where
   beside-on : (w : Where) (u : Entry A) (c s : Forest (Entry A)) (i : ℕ) → i < size s → Placed w s i → Placed w (node u c s) (suc (size c + i))
   beside-on w u c s i h t z l r p d k =
       let b = t z (u .end) r p d (k .2) in
-      let e : getD (rows (suc d) c ++ rows d s) (size c + i) (z, 0) ≡ getD (rows d s) i (z, 0) =
-      ap (λ (n : ℕ). getD (rows (suc d) c ++ rows d s) (n + i) (z, 0)) (sym (length-rows (suc d) c))
-      ∙ getD-append-add (rows (suc d) c) (rows d s) i (z, 0) in
+      let e : getD (rows (suc d) c ++ rows d s) (size c + i) z ≡ getD (rows d s) i z =
+      ap (λ (n : ℕ). getD (rows (suc d) c ++ rows d s) (n + i) z) (sym (length-rows (suc d) c))
+      ∙ getD-append-add (rows (suc d) c) (rows d s) i z in
       rw (e, spot-on u c s i w)
       (record {
         own = own-left (upward? w) (ownCode w _) _ _ _

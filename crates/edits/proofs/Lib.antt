@@ -1,0 +1,4 @@
+-- Laws of edits: bytes moved, neighbours found. Assumes nothing.
+pub mod SpliceLaws
+pub mod SearchLaws
+pub mod PlaceLaws
