@@ -2,3 +2,4 @@
 pub mod SpliceLaws
 pub mod SearchLaws
 pub mod PlaceLaws
+pub mod OutcomeLaws

@@ -10,25 +10,32 @@ use lib.Dec.{eqb, ltb}
 use lib.ListN.{length, getD, List·getD-map}
 use borrow.Author.Tests.{ltb-true}
 use Rattle.digits.specs.Order.{Digits}
-use Rattle.digits.specs.Code.{Rising}
+use Rattle.digits.specs.Code.{Rising, Formed}
+use Rattle.digits.specs.Between.{between}
+use Rattle.codes.specs.declared.spread.Code.{Code}
+use Rattle.codes.specs.Code.{longest, IsCode}
+use Rattle.codes.specs.Spread.{digitsOf, Held}
 use Rattle.trees.specs.Forest.{Forest, size, preorder}
 use Rattle.trees.specs.Table.{rows}
 use Rattle.trees.specs.Labelled.{Name, Entry, starts, ends, codes}
-use Rattle.trees.specs.Edit.{Where, lastChild, inside?, Spot, ahead, levelAt, spotOf, leaf?}
-use Rattle.trees.specs.Neighbours.{leftOf, rightOf}
+use Rattle.trees.specs.Edit.{Where, firstChild, lastChild, before, after, inside?, Spot, ahead, levelAt, spotOf, leaf?}
+use Rattle.trees.specs.Neighbours.{leftOf, rightOf, parentAt, newEntry}
 use Rattle.trees.specs.Search.{upward?, ownCode, outermost, nearest, leading}
 use Rattle.trees.proofs.ForestLaws.{length-preorder}
+use Rattle.trees.proofs.NeighbourLaws.{parent-inner, new-formed}
 use Rattle.trees.proofs.PlaceLaws.{Own, Beside, beside, level-inner}
 use Rattle.trees.proofs.SearchLaws.{other, leading-ahead, neighbour-found, leaf-ahead}
 use Rattle.registers.specs.Entries.{codeAt}
-use Rattle.registers.specs.Layout.{endPlace}
-use Rattle.registers.specs.Sound.{lineAt}
+use Rattle.registers.specs.Layout.{deepest, startPlace, endPlace, parentPlace}
+use Rattle.registers.specs.Sound.{lineAt, CodeAt, SideAt}
 use Rattle.registers.specs.Questions.{countOf, linesOf, registerSound?, depthIn, treeOf}
+use Rattle.registers.proofs.SoundLaws.{side-held}
 use Rattle.registers.proofs.RowLaws.{lines-length}
 use Rattle.registers.proofs.QuestionLaws.{line-at}
 use Rattle.registers.proofs.AnswerLaws.{rows-lines, Stands, tree-stands}
+use Rattle.edits.specs.Search.{ownPlace, parentFrom}
 use Rattle.edits.specs.Edits.{parented?}
-use Rattle.edits.proofs.SearchLaws.{end-of}
+use Rattle.edits.proofs.SearchLaws.{codes-at, start-of, end-of, parent-of}
 
 module _ (b : List ℕ) (e : registerSound? b ≡ true) where
   abbrev f : Forest (Entry Name)
@@ -69,6 +76,46 @@ module _ (b : List ℕ) (e : registerSound? b ≡ true) where
         subst (λ (r : Entry Name × ℕ). Beside w (r .0) (r .1) [] [] [] 0 f q) (row-is i z h)
         (beside w f i inside-tree (z, depthIn z (linesOf b)) [] [] [] 0 (stands .sound .parented))
 
+    -- its depth
+    pub level-inside : inside? w ≡ true → depthIn (lineAt b i) (linesOf b) + 1 ≡ levelAt f q
+    level-inside k =
+        let n : ℕ = depthIn (lineAt b i) (linesOf b) in
+        let l : 0 + levelAt f q ≡ suc n = place-at .level ∙ ap (λ (t : Bool). cond t (suc n) n) k in
+        omega arith
+
+    pub level-beside : inside? w ≡ false → depthIn (lineAt b i) (linesOf b) ≡ levelAt f q
+    level-beside k =
+        let n : ℕ = depthIn (lineAt b i) (linesOf b) in
+        let l : 0 + levelAt f q ≡ n = place-at .level ∙ ap (λ (t : Bool). cond t (suc n) n) k in
+        omega arith
+
+    -- the target's own code
+    pub own-at : CodeAt b (ownPlace w i)
+    own-at = go w
+      where
+        go : (v : Where) → CodeAt b (ownPlace v i)
+        go firstChild = codes-at b e i h .start-at
+        go lastChild = codes-at b e i h .end-at
+        go before = codes-at b e i h .start-at
+        go after = codes-at b e i h .end-at
+
+    own-is : ownCode w (lineAt b i) ≡ codeAt b (ownPlace w i)
+    own-is = go w
+      where
+        go : (v : Where) → ownCode v (lineAt b i) ≡ codeAt b (ownPlace v i)
+        go firstChild = start-of b e i h
+        go lastChild = end-of b e i h
+        go before = start-of b e i h
+        go after = end-of b e i h
+
+    pub own-left : upward? w ≡ true → codeAt b (ownPlace w i) ≡ leftOf starts ends f q
+    own-left k =
+        sym (subst (λ (t : Bool). Own t (ownCode w (lineAt b i)) (leftOf starts ends f q) (rightOf starts ends f q)) k (place-at .own) ∙ own-is)
+
+    pub own-right : upward? w ≡ false → codeAt b (ownPlace w i) ≡ rightOf starts ends f q
+    own-right k =
+        sym (subst (λ (t : Bool). Own t (ownCode w (lineAt b i)) (leftOf starts ends f q) (rightOf starts ends f q)) k (place-at .own) ∙ own-is)
+
     module _ (p : parented? w i ≡ true) where
       pub inner : 0 < levelAt f q
       inner = level-inner w i f (stands .rooted) inside-tree (go (inside? w) refl)
@@ -87,6 +134,46 @@ module _ (b : List ℕ) (e : registerSound? b ≡ true) where
           ∙ ap (λ (u : Entry Name). nearest (upward? w) (ownCode w (lineAt b i)) (outermost (upward? w) u) (preorder f)) (sym o)
           ∙ neighbour-found (upward? w) (ownCode w (lineAt b i)) f q z (stands .rooted) rises inner (place-at .own)
 
+      other-is : (r own : ℕ) (up : Bool) → up ≡ upward? w → own ≡ ownPlace w i
+          → codeAt b r ≡ nearest up (codeAt b own) (outermost up (lineAt b 0)) (linesOf b)
+          → codeAt b r ≡ other up (leftOf starts ends f q) (rightOf starts ends f q)
+      other-is r own up k o n =
+          n ∙ ap (λ (z : ℕ). nearest up (codeAt b z) (outermost up (lineAt b 0)) (linesOf b)) o
+          ∙ ap (λ (x : Digits). nearest up x (outermost up (lineAt b 0)) (linesOf b)) (sym own-is)
+          ∙ subst
+          (λ (t : Bool). nearest t (ownCode w (lineAt b i)) (outermost t (lineAt b 0)) (linesOf b)
+          ≡ other t (leftOf starts ends f q) (rightOf starts ends f q)) (sym k) found-other
+
+      pub other-right : (r own : ℕ) (up : Bool) → up ≡ upward? w → own ≡ ownPlace w i → upward? w ≡ true
+          → codeAt b r ≡ nearest up (codeAt b own) (outermost up (lineAt b 0)) (linesOf b) → codeAt b r ≡ rightOf starts ends f q
+      other-right r own up k o t n =
+          other-is r own up k o n ∙ ap (λ (z : Bool). other z (leftOf starts ends f q) (rightOf starts ends f q)) (k ∙ t)
+
+      pub other-left : (r own : ℕ) (up : Bool) → up ≡ upward? w → own ≡ ownPlace w i → upward? w ≡ false
+          → codeAt b r ≡ nearest up (codeAt b own) (outermost up (lineAt b 0)) (linesOf b) → codeAt b r ≡ leftOf starts ends f q
+      other-left r own up k o t n =
+          other-is r own up k o n ∙ ap (λ (z : Bool). other z (leftOf starts ends f q) (rightOf starts ends f q)) (k ∙ t)
+
+      -- the parent start of what is put in
+      parent-is : parentAt [] f q ≡ codeAt b (parentFrom w i)
+      parent-is = place-at .parented ∙ go (inside? w)
+        where
+          go : (t : Bool) → cond t (lineAt b i .start) (lineAt b i .parent) ≡ codeAt b (cond t (startPlace i) (parentPlace i))
+          go true = start-of b e i h
+          go false = parent-of b e i h
+
+      parent-code : IsCode (codeAt b (parentFrom w i))
+      parent-code = subst IsCode parent-is (parent-inner IsCode [] f q (stands .sound .coded) inner)
+
+      pub parent-found : (r : ℕ) → r ≡ parentFrom w i → CodeAt b r × IsCode (codeAt b r) × (codeAt b r ≡ parentAt [] f q)
+      parent-found r k =
+          subst (λ (z : ℕ). CodeAt b z × IsCode (codeAt b z) × (codeAt b z ≡ parentAt [] f q)) (sym k)
+          (side-held b (parentFrom w i) (go (inside? w)) parent-code, parent-code, sym parent-is)
+        where
+          go : (t : Bool) → SideAt b (cond t (startPlace i) (parentPlace i))
+          go true = codes-at b e i h .start-side
+          go false = codes-at b e i h .parent-side
+
       -- the lines that start below the right neighbour are those before the place
       pub found-place : leading (rightOf starts ends f q) (linesOf b) ≡ length (ahead f q)
       found-place = ap (leading (rightOf starts ends f q)) (sym (stands .entries)) ∙ leading-ahead f q rises inner
@@ -98,3 +185,15 @@ module _ (b : List ℕ) (e : registerSound? b ≡ true) where
       let m : n ≡ length (ahead f (spotOf lastChild i f)) =
       k ∙ ap (λ (x : Digits). leading x (linesOf b)) r ∙ found-place lastChild i h refl in
       rw (m, add-one i) (leaf-ahead f i (inside-tree lastChild i h))
+
+  -- the new codes have the form of codes
+  pub new-codes : (m : Name) (q : Spot f) → Formed 1 3 (newEntry m f q .start) × Formed 1 3 (newEntry m f q .end)
+  new-codes m q = new-formed longest (suc deepest) f q (stands .sound) m
+
+-- the step on two spread codes is the step on their digits
+pub held-step : (l r s : Code) (x y : Digits) → digitsOf l ≡ x → digitsOf r ≡ y → Held s (between (digitsOf l) (digitsOf r))
+    → Held s (between x y)
+held-step l r s x y i j h = rw (sym i, sym j) h
+
+pub held-code : (s : Code) (x : Digits) → Held s x → Formed 1 3 x → s .count ≤ longest → IsCode (digitsOf s)
+held-code s x h k n = rw (h .digits) (record { formed = k; fits = omega (arith, h .count) })

@@ -6,6 +6,7 @@ use native.Mathlib.Nat.{zero-add}
 use native.Mathlib.Omega.{arith}
 use lib.ListN.{length, take, drop, replicate, length-append, length-drop, take-append-drop}
 use lib.Seq.{length-take-le, take-add}
+use Rattle.digits.specs.Order.{Digits}
 use Rattle.numbers.specs.Bytes.{put, le4}
 use Rattle.numbers.proofs.PutLaws.{put-under, put-length, drop-put, run-inside}
 use Rattle.trees.specs.Labelled.{Name, Entry}
@@ -153,3 +154,36 @@ module _ (b : List ℕ) (i : ℕ) (k : i < countOf b) (room : entryPlace (countO
   pub deleted-length : length (deletedBytes b i) ≡ length b
   unfolding deletedBytes
   deleted-length = let e = deleted-end in put-length b 0 _ (omega arith)
+
+-- the three writes of an insertion, and of a deletion
+pub insert-writes : (b b₁ b₂ b₃ : List ℕ) (x : Entry Name) (n i to from width : ℕ) → n ≡ countOf b → i ≤ n
+    → entryPlace (n + 1) ≤ length b → to ≡ entryPlace (i + 1) → from ≡ entryPlace i → width ≡ entrySize * (n - i)
+    → b₁ ≡ put b to (take width (drop from b)) → b₂ ≡ put b₁ (entryPlace i) (entryBytes x) → b₃ ≡ put b₂ 0 (le4 (n + 1) ++ le4 0)
+    → b₃ ≡ insertedBytes b i x
+unfolding insertedBytes
+insert-writes b b₁ b₂ b₃ x n i to from width c k room p q r e f g =
+    insert-runs b b₁ b₂ b₃ (entryBytes x) (le4 (n + 1) ++ le4 0) n i k room (entry-length x) refl
+    (e ∙ ap (λ (z : ℕ). put b z (take width (drop from b))) p ∙ ap (λ (z : ℕ). put b (entryPlace (i + 1)) (take width (drop z b))) q
+    ∙ ap (λ (z : ℕ). put b (entryPlace (i + 1)) (take z (drop (entryPlace i) b))) r)
+    f g
+    ∙ ap (λ (z : ℕ). put b 0 (le4 (z + 1) ++ (le4 0 ++ (entriesAt b 0 i ++ (entryBytes x ++ entriesAt b i (z - i)))))) c
+
+pub delete-writes : (b b₁ b₂ b₃ : List ℕ) (n i to from width last : ℕ) → n ≡ countOf b → i < n → entryPlace n ≤ length b
+    → to ≡ entryPlace i → from ≡ entryPlace (i + 1) → width ≡ entrySize * (n - 1 - i) → last ≡ entryPlace (n - 1)
+    → b₁ ≡ put b to (take width (drop from b)) → b₂ ≡ put b₁ last (replicate entrySize 0) → b₃ ≡ put b₂ 0 (le4 (n - 1) ++ le4 0)
+    → b₃ ≡ deletedBytes b i
+unfolding deletedBytes
+delete-writes b b₁ b₂ b₃ n i to from width last c k room p q r s e f g =
+    delete-runs b b₁ b₂ b₃ (le4 (n - 1) ++ le4 0) n i k room refl
+    (e ∙ ap (λ (z : ℕ). put b z (take width (drop from b))) p ∙ ap (λ (z : ℕ). put b (entryPlace i) (take width (drop z b))) q
+    ∙ ap (λ (z : ℕ). put b (entryPlace i) (take z (drop (entryPlace (i + 1)) b))) r)
+    (f ∙ ap (λ (z : ℕ). put b₁ z (replicate entrySize 0)) s) g
+    ∙ ap
+    (λ (z : ℕ). put b 0
+    (le4 (z - 1) ++ (le4 0 ++ (entriesAt b 0 i ++ (entriesAt b (i + 1) (z - 1 - i) ++ replicate entrySize 0))))) c
+
+-- the same place and the same parts
+pub same-inserted : (b : List ℕ) (i j : ℕ) (m : Name) (s s′ e e′ p p′ : Digits) → i ≡ j → s ≡ s′ → e ≡ e′ → p ≡ p′
+    → insertedBytes b i (record { name = m; start = s; end = e; parent = p })
+    ≡ insertedBytes b j (record { name = m; start = s′; end = e′; parent = p′ })
+same-inserted b i j m s s′ e e′ p p′ a c d f = rw (a, c, d, f) refl

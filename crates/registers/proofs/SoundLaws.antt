@@ -78,6 +78,10 @@ sound-at b i h t =
           (λ f. Below (code (fieldAt startAt (labelBytes b i))) (code f)) ee (s .spans));
     }
 
+-- a side that is a code is held as one
+pub side-held : (b : List ℕ) (at : ℕ) → SideAt b at → IsCode (codeAt b at) → CodeAt b at
+side-held b at s c = (s .inside, code-held b at (codeAt b at) c (s .field))
+
 -- a field that holds a code is full
 pub code-full : (b f : List ℕ) (at : ℕ) → CodeAt b at → f ≡ fieldAt at b → kindOf (read f) ≡ Full
 code-full b f at h e = ap (λ (z : List ℕ). kindOf (read z)) e ∙ ap kindOf (held-code (read (fieldAt at b)) (h .1))

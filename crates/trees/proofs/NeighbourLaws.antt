@@ -8,9 +8,9 @@ use native.Mathlib.Omega.{arith}
 use lib.ListN.{length}
 use Rattle.digits.specs.Lists.{All}
 use Rattle.digits.specs.Order.{Digits, Below}
-use Rattle.digits.specs.Code.{Within, Side, Under, Rising}
+use Rattle.digits.specs.Code.{Formed, Within, Side, Under, Rising}
 use Rattle.digits.specs.Between.{Gap, Pair, startOf, endOf}
-use Rattle.digits.proofs.ListLaws.{all-map}
+use Rattle.digits.proofs.ListLaws.{all-map, all-part}
 use Rattle.digits.proofs.OrderLaws.{below-trans}
 use Rattle.digits.proofs.CodeLaws.{formed-side, below-under, under-trans}
 use Rattle.digits.proofs.BetweenLaws.{between-pair}
@@ -121,6 +121,22 @@ module _ {A : Type 0} where
   parents-cut p g (node u c s) (inr (inl q)) h = (h .0, parents-cut (u .start) g c q (h .1), h .2)
   parents-cut p g (node u c s) (inr (inr q)) h = (h .0, h .1, parents-cut p g s q (h .2))
 
+  -- the parent start of what is put in under an entry is one of the codes
+  module _ (P : Digits → Type 0) where
+    parent-kept : (p : Digits) (f : Forest (Entry A)) (q : Spot f) → P p → All P (codes f) → P (parentAt p f q)
+    parent-kept p nil q i a = i
+    parent-kept p (node u c s) (inl q) i a = i
+    parent-kept p (node u c s) (inr (inl q)) i a =
+        parent-kept (u .start) c q (a .0) (all-part P (codes c) (codes s) (u .end) (a .1) .0)
+    parent-kept p (node u c s) (inr (inr q)) i a = parent-kept p s q i (all-part P (codes c) (codes s) (u .end) (a .1) .2)
+
+    pub parent-inner : (p : Digits) (f : Forest (Entry A)) (q : Spot f) → All P (codes f) → 0 < levelAt f q → P (parentAt p f q)
+    parent-inner p nil q a h = absurd (omega arith)
+    parent-inner p (node u c s) (inl q) a h = absurd (omega arith)
+    parent-inner p (node u c s) (inr (inl q)) a h =
+        parent-kept (u .start) c q (a .0) (all-part P (codes c) (codes s) (u .end) (a .1) .0)
+    parent-inner p (node u c s) (inr (inr q)) a h = parent-inner p s q (all-part P (codes c) (codes s) (u .end) (a .1) .2) h
+
   module _ (Code : Digits → Type 0) (k : ℕ) (g f : Forest (Entry A)) (q : Spot f) where
     abbrev front : List Digits
     front = codesAhead starts ends f q
@@ -198,6 +214,10 @@ module _ {A : Type 0} where
 
     spot-pair : Pair L R (startOf L R) (endOf L R)
     spot-pair = between-pair L R spot-gap
+
+    -- the new codes have the form of codes
+    pub new-formed : (a : A) → Formed 1 3 (newEntry a f q .start) × Formed 1 3 (newEntry a f q .end)
+    new-formed a = let p = spot-pair in (p .first .shape, p .second .shape)
 
     -- demand 3: the longest code grows by at most one digit
     pub new-length : (a : A) → (length (newEntry a f q .start) ≤ suc m) × (length (newEntry a f q .end) ≤ suc m)

@@ -38,8 +38,7 @@ fields-below-requires : tie.Need-fields-below-requires Inv-loop μ-loop
 fields-below-requires c κs =
     let l = c .before .before in
     let a = l .before .before .before in
-    let b = a .args .register .now in
-    (
+    let b = a .args .register .now in (
       subst (CodeAt b) (sym (c .start-place .ensures)) (codes-at b (a .pre .0) (l .loop .i) (omega (arith, l .loop .inv .1)) .start-at),
       a .pre .1,
     )

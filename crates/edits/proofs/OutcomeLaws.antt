@@ -1,0 +1,157 @@
+-- Laws of the outcome of an edit, test by test in the paper's order. Assumes nothing.
+use mathlib.Core.Path.{_≡_, refl, sym, ap, _∙_}
+use mathlib.Core.Bool.{Bool, true, false, cond, _&&_, and-eq-true-iff}
+use mathlib.Core.List.{List, [], _∷_}
+use Prim.Native.Nat.{ℕ, zero, suc, _+_, _≤_, _<_}
+use native.Mathlib.Omega.{arith}
+use lib.Dec.{eqb, leb, ltb}
+use lib.ListN.{length}
+use borrow.Author.Tests.{ltb-true, leb-true, eqb-true, eqb-false, le-leb, lt-leb, lt-ltb, le-ltb, ne-eqb}
+use Rattle.answers.specs.declared.Refusal.the-variants.{Identity, Room, Register, Target, Root, CodeLength, Children, Depth}
+use Rattle.answers.specs.Outcome.{accepted, refused}
+use Rattle.codes.specs.Code.{longest}
+use Rattle.identities.specs.Identities.{among?}
+use Rattle.identities.specs.Rows.{fresh?}
+use Rattle.trees.specs.Forest.{Forest}
+use Rattle.trees.specs.Labelled.{Name, Entry}
+use Rattle.trees.specs.Edit.{Where, inside?, Spot, ahead, levelAt, spotOf, leaf?}
+use Rattle.trees.specs.Neighbours.{newEntry}
+use Rattle.registers.specs.declared.Found.the-variants.{At, Nothing}
+use Rattle.registers.specs.Layout.{mostEntries, deepest, entryPlace}
+use Rattle.registers.specs.Holds.{identities}
+use Rattle.registers.specs.Questions.{countOf, linesOf, registerSound?, foundFrom, foundIn, treeOf}
+use Rattle.registers.proofs.QuestionLaws.{nothing-at}
+use Rattle.edits.specs.Splice.{insertedBytes, deletedBytes}
+use Rattle.edits.specs.Edits.{parented?, room?, fits?, putOutcome, insertAt, insertOutcome, deleteAt, deleteOutcome}
+
+-- 5 and 6
+module _ (b : List ℕ) (w : Where) (t : ℕ) (m : Name) where
+  pub insert-unsound : registerSound? b ≡ false → insertOutcome b w t m ≡ refused Register b
+  unfolding insertOutcome
+  insert-unsound e = rw e refl
+
+  module _ (e : registerSound? b ≡ true) where
+    pub insert-absent : foundIn b t ≡ Nothing → insertOutcome b w t m ≡ refused Target b
+    unfolding insertOutcome
+    insert-absent k = rw (e, k) refl
+
+    pub insert-found : (i : ℕ) → foundIn b t ≡ At i → insertOutcome b w t m ≡ insertAt b w i m
+    unfolding insertOutcome
+    insert-found i k = rw (e, k) refl
+
+module _ (b : List ℕ) (t : ℕ) where
+  pub delete-unsound : registerSound? b ≡ false → deleteOutcome b t ≡ refused Register b
+  unfolding deleteOutcome
+  delete-unsound e = rw e refl
+
+  module _ (e : registerSound? b ≡ true) where
+    pub delete-absent : foundIn b t ≡ Nothing → deleteOutcome b t ≡ refused Target b
+    unfolding deleteOutcome
+    delete-absent k = rw (e, k) refl
+
+    pub delete-found : (i : ℕ) → foundIn b t ≡ At i → deleteOutcome b t ≡ deleteAt b i
+    unfolding deleteOutcome
+    delete-found i k = rw (e, k) refl
+
+-- 7, 3, 10, 4
+module _ (b : List ℕ) (w : Where) (i : ℕ) (m : Name) where
+  abbrev f : Forest (Entry Name)
+  f = treeOf (linesOf b)
+
+  pub at-root : parented? w i ≡ false → insertAt b w i m ≡ refused Root b
+  at-root e = rw e refl
+
+  module _ (e : parented? w i ≡ true) where
+    pub at-used : fresh? (m .identity) (identities (linesOf b)) ≡ false → insertAt b w i m ≡ refused Identity b
+    at-used k = rw (e, k) refl
+
+    module _ (k : fresh? (m .identity) (identities (linesOf b)) ≡ true) where
+      pub at-deep : deepest < levelAt f (spotOf w i f) → insertAt b w i m ≡ refused Depth b
+      at-deep h = rw (e, k, lt-leb (levelAt f (spotOf w i f)) deepest h) refl
+
+      module _ (h : levelAt f (spotOf w i f) ≤ deepest) where
+        pub at-full : room? b ≡ false → insertAt b w i m ≡ refused Room b
+        at-full r = rw (e, k, le-leb (levelAt f (spotOf w i f)) deepest h, r) refl
+
+        pub at-put : room? b ≡ true → insertAt b w i m ≡ putOutcome b m f (spotOf w i f)
+        at-put r = rw (e, k, le-leb (levelAt f (spotOf w i f)) deepest h, r) refl
+
+-- 7, 9
+module _ (b : List ℕ) (i : ℕ) where
+  pub delete-root : i ≡ 0 → deleteAt b i ≡ refused Root b
+  delete-root e = rw e refl
+
+  module _ (h : (i ≡ 0) → ⊥) where
+    some : ltb 0 i ≡ true
+    some = lt-ltb 0 i (omega arith)
+
+    pub delete-inner : leaf? i (treeOf (linesOf b)) ≡ false → deleteAt b i ≡ refused Children b
+    delete-inner k = rw (some, k) refl
+
+    pub delete-leaf : leaf? i (treeOf (linesOf b)) ≡ true → deleteAt b i ≡ accepted i (deletedBytes b i)
+    delete-leaf k = rw (some, k) refl
+
+-- 8
+module _ (b : List ℕ) (m : Name) (f : Forest (Entry Name)) (q : Spot f) where
+  abbrev x : Entry Name
+  x = newEntry m f q
+
+  pub put-long : longest < length (x .start) → putOutcome b m f q ≡ refused CodeLength b
+  put-long h = rw (lt-leb (length (x .start)) longest h) refl
+
+  module _ (h : length (x .start) ≤ longest) where
+    pub put-long-end : longest < length (x .end) → putOutcome b m f q ≡ refused CodeLength b
+    put-long-end k = rw (le-leb (length (x .start)) longest h, lt-leb (length (x .end)) longest k) refl
+
+    pub put-done : length (x .end) ≤ longest → putOutcome b m f q ≡ accepted (length (ahead f q)) (insertedBytes b (length (ahead f q)) x)
+    put-done k = rw (le-leb (length (x .start)) longest h, le-leb (length (x .end)) longest k) refl
+
+-- a fresh identity: not 0, and not found
+found-among : (x i : ℕ) (ys : List ℕ) → foundFrom i x ys ≡ Nothing → among? x ys ≡ false
+found-among x i [] e = refl
+found-among x i (y ∷ ys) e = go (eqb x y) (λ k. found-among x (suc i) ys k) e
+  where
+    go : (t : Bool) → (foundFrom (suc i) x ys ≡ Nothing → among? x ys ≡ false)
+        → cond t (At i) (foundFrom (suc i) x ys) ≡ Nothing → cond t true (among? x ys) ≡ false
+    go true more k = nothing-at (sym k)
+    go false more k = more k
+
+among-found : (x i j : ℕ) (ys : List ℕ) → foundFrom i x ys ≡ At j → among? x ys ≡ true
+among-found x i j [] e = nothing-at e
+among-found x i j (y ∷ ys) e = go (eqb x y) (λ k. among-found x (suc i) j ys k) e
+  where
+    go : (t : Bool) → (foundFrom (suc i) x ys ≡ At j → among? x ys ≡ true)
+        → cond t (At i) (foundFrom (suc i) x ys) ≡ At j → cond t true (among? x ys) ≡ true
+    go true more k = refl
+    go false more k = more k
+
+module _ (b : List ℕ) (x : ℕ) where
+  pub fresh-zero : x ≡ 0 → false ≡ fresh? x (identities (linesOf b))
+  fresh-zero e = rw e refl
+
+  module _ (h : (x ≡ 0) → ⊥) where
+    pub fresh-found : (j : ℕ) → foundIn b x ≡ At j → false ≡ fresh? x (identities (linesOf b))
+    fresh-found j e = rw (ne-eqb x 0 h, among-found x 0 j (identities (linesOf b)) e) refl
+
+    pub fresh-new : foundIn b x ≡ Nothing → true ≡ fresh? x (identities (linesOf b))
+    fresh-new e = rw (ne-eqb x 0 h, found-among x 0 (identities (linesOf b)) e) refl
+
+-- room for one more
+module _ (b : List ℕ) where
+  pub room-full : mostEntries ≤ countOf b → false ≡ room? b
+  room-full h = rw (le-ltb (countOf b) mostEntries h) refl
+
+  pub room-is : (t : Bool) → countOf b < mostEntries → t ≡ leb (entryPlace (countOf b + 1)) (length b) → t ≡ room? b
+  room-is t h e = rw (lt-ltb (countOf b) mostEntries h) e
+
+  pub room-for : room? b ≡ true → (countOf b < mostEntries) × (entryPlace (countOf b + 1) ≤ length b)
+  room-for e =
+      let a = and-eq-true-iff (ltb (countOf b) mostEntries) (leb (entryPlace (countOf b + 1)) (length b)) .0 e in
+      (ltb-true (countOf b) mostEntries (a .0), leb-true (entryPlace (countOf b + 1)) (length b) (a .1))
+
+-- the place of the target
+pub root-place : (w : Where) (i : ℕ) (t : Bool) → inside? w ≡ false → t ≡ ltb 0 i → t ≡ parented? w i
+root-place w i t e h = rw e h
+
+pub inside-place : (w : Where) (i : ℕ) → inside? w ≡ true → true ≡ parented? w i
+inside-place w i e = rw e refl
