@@ -1,4 +1,4 @@
-# make: proves all crates, builds and runs the test program and the C example. make test: the gate. make bench: speed beside Rust.
+# make: proves all crates, builds and runs the test program and the C examples. make test: the gate. make bench: speed beside Rust.
 .PHONY: run test bench
 
 run:
@@ -8,6 +8,8 @@ run:
 	rt staticlib host
 	tools/cc examples/labels.c
 	target/c/labels
+	tools/cc examples/incident.c
+	target/c/incident
 
 test:
 	@tools/test

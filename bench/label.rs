@@ -10,7 +10,7 @@ use random::Random;
 use std::collections::HashSet;
 use std::hint::black_box;
 use std::time::Instant;
-use tables::{label, table, Places, DEEPEST, END, ENTRY, FIELD, HEADER, MOST, PARENT, SHAPES, START};
+use tables::{label, table, write_number, Places, DEEPEST, END, ENTRY, FIELD, HEADER, MOST, PARENT, SHAPES, START};
 
 const SEED: u64 = 20_250_301;
 const ROUNDS: usize = 15;
@@ -119,11 +119,6 @@ mod plain {
         let field: &mut [u8; FIELD] = entry[at..].first_chunk_mut().unwrap();
         *field = [0; FIELD];
         field[..4].copy_from_slice(&code.to_be_bytes());
-    }
-
-    #[inline(always)]
-    fn write_number(bytes: &mut [u8], at: usize, number: u32) {
-        bytes[at..at + 4].copy_from_slice(&number.to_le_bytes());
     }
 
     // The register's header written, and its entries.

@@ -2,8 +2,10 @@
 //
 // Each call on either side passes one boundary that is not inlined, and checks its inputs anew. Where good Rust can be
 // written in more than one way, every way is timed and the fastest is the baseline.
+mod packed;
 mod random;
 
+use packed::{digit, Field, FIELD, LONGEST};
 use random::Random;
 use std::cmp::Ordering;
 use std::collections::BTreeSet;
@@ -20,8 +22,6 @@ const DAMAGED: usize = 10_000;
 const ROUNDS: usize = 5;
 const PIECES: usize = 20;
 
-const LONGEST: usize = 127;
-const FIELD: usize = 32;
 const LABEL: usize = 3 * FIELD;
 
 const ROOM: i32 = -100_004;
@@ -30,7 +30,6 @@ const UNSOUND_LABEL: i32 = -100_011;
 const NO_CODE: i32 = -100_012;
 const DISORDERED: i32 = -100_013;
 
-type Field = [u8; FIELD];
 type Label = [u8; LABEL];
 
 // The proved calls. A slice passes as a pointer and then a length.
@@ -255,17 +254,6 @@ mod plain {
         Ok((left, l, right, r))
     }
 
-    #[inline(always)]
-    fn digit(field: &Field, i: usize) -> u8 {
-        field[i / 4] >> (6 - i % 4 * 2) & 3
-    }
-
-    // Changes bits of a digit.
-    #[inline(always)]
-    fn flip(field: &mut Field, i: usize, bits: u8) {
-        field[i / 4] ^= bits << (6 - i % 4 * 2);
-    }
-
     // The code between, made in the packed field.
     #[inline(never)]
     pub fn between_packed(left: &[u8], right: &[u8], field: &mut [u8]) -> i32 {
@@ -276,26 +264,9 @@ mod plain {
         let Some(field) = field.first_chunk_mut() else {
             return ROOM;
         };
-        let mut made = if l < r { *right } else { *left };
-        let n = if l < r {
-            if digit(right, r - 1) == 2 {
-                flip(&mut made, r - 1, 2 ^ 1);
-                flip(&mut made, r, 2);
-                r + 1
-            } else {
-                flip(&mut made, r - 1, 3 ^ 2);
-                r
-            }
-        } else if l > r && digit(left, l - 1) == 2 {
-            flip(&mut made, l - 1, 2 ^ 3);
-            l
-        } else {
-            flip(&mut made, l, 2);
-            l + 1
-        };
-        if n > LONGEST {
+        let Some((made, n)) = packed::between(left, l, right, r) else {
             return CODE_LENGTH;
-        }
+        };
         *field = made;
         n as i32
     }

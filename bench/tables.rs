@@ -1,4 +1,5 @@
 // What the benchmarks of tables and of registers share: 01's layout, the proved labelling, tables of a shape, identities seen.
+#![allow(dead_code)] // not every benchmark needs all of it
 use crate::random::Random;
 use std::collections::HashSet;
 
@@ -10,6 +11,11 @@ pub const ENTRY: usize = 104;
 pub const START: usize = 8;
 pub const END: usize = START + FIELD;
 pub const PARENT: usize = END + FIELD;
+
+#[inline(always)]
+pub fn write_number(bytes: &mut [u8], at: usize, number: u32) {
+    bytes[at..at + 4].copy_from_slice(&number.to_le_bytes());
+}
 
 // The proved labelling. A slice passes as a pointer and then a length.
 pub fn label(table: &[u32], register: &mut [u8]) -> i64 {

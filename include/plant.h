@@ -2,8 +2,9 @@
  *
  * An entry of the register carries a label of three packed codes: its start, its end and its parent's start. Which entry
  * stands before, above, directly above or beside which is read off two labels. A table of entries in document order gets
- * its first labels by plant_label. Where an entry stands in a register and how deep is asked by its identity. The functions
- * behind these calls are proved to meet their contracts; what a caller has to see to stands under the word `caller`.
+ * its first labels by plant_label. Where an entry stands in a register and how deep is asked by its identity. Later entries
+ * are put in and taken out one by one; the labels of the others stay. The functions behind these calls are proved to meet
+ * their contracts; what a caller has to see to stands under the word `caller`.
  *
  * Every buffer belongs to the caller: nothing is allocated, and no pointer is kept after a call. No state is kept either,
  * so calls may run in several threads as long as no thread writes to a buffer that is lent to a running call.
@@ -182,6 +183,38 @@ int32_t plant_depth(const uint8_t *reg, size_t len, uint32_t identity);
  * caller    reg is not NULL, even for length 0, and points to len readable bytes; 64 KB of stack are free
  * proved    registers::distance, crates/registers/src/lib.rt */
 int32_t plant_distance(const uint8_t *reg, size_t len, uint32_t x, uint32_t y);
+
+/* Edits of a register. Each looks at the whole register first, as the questions do. No other entry's identity, tag or label
+ * changes: later entries only move. An identity that was taken out may be put in again. */
+
+/* Puts an entry without children in: as first child of a target, as last child of it, directly before it, or directly after
+ * it, which is behind all that lies under it.
+ * takes     reg: a register; target: the identity of the entry that names the place; identity, tag: those of the new entry
+ * answers   the new entry's place, from 0 in document order
+ * refuses   PLANT_NO_REGISTER if reg holds no sound register, PLANT_NO_TARGET if no entry has the identity target, PLANT_ROOT
+ *           if the target of before or after is the root, PLANT_IDENTITY if identity is 0 or that of an entry, PLANT_DEPTH if
+ *           the new entry's depth would pass 63, PLANT_ROOM if the register has 4,096 entries or len is below
+ *           8 + 104 x (count + 1), PLANT_CODE_LENGTH if its start or its end would pass 127 digits
+ * writes    the count; the new entry at its place; the later entries, each 104 bytes further up; bytes past them are kept;
+ *           refused, nothing. With L and R the two codes that stand next to the place along the tour, the new start is the
+ *           one that plant_between makes of L and R, the new end the one that it makes of the new start and R
+ * caller    reg is not NULL, even for length 0, and points to len bytes that may be read and written; 64 KB of stack are free
+ * proved    edits::apply, crates/edits/src/lib.rt */
+int32_t plant_insert_first(uint8_t *reg, size_t len, uint32_t target, uint32_t identity, uint32_t tag);
+int32_t plant_insert_last(uint8_t *reg, size_t len, uint32_t target, uint32_t identity, uint32_t tag);
+int32_t plant_insert_before(uint8_t *reg, size_t len, uint32_t target, uint32_t identity, uint32_t tag);
+int32_t plant_insert_after(uint8_t *reg, size_t len, uint32_t target, uint32_t identity, uint32_t tag);
+
+/* Takes an entry without children out.
+ * takes     reg: a register; target: the identity of the entry
+ * answers   the place that the entry had, from 0 in document order
+ * refuses   PLANT_NO_REGISTER if reg holds no sound register, PLANT_NO_TARGET if no entry has the identity target, PLANT_ROOT
+ *           if it is the root, PLANT_CHILDREN if it has children
+ * writes    the count; the later entries, each 104 bytes further down; zero to the 104 bytes that the last one left; bytes
+ *           past them are kept; refused, nothing
+ * caller    reg is not NULL, even for length 0, and points to len bytes that may be read and written; 64 KB of stack are free
+ * proved    edits::apply, crates/edits/src/lib.rt */
+int32_t plant_delete(uint8_t *reg, size_t len, uint32_t target);
 
 #ifdef __cplusplus
 }

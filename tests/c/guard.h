@@ -40,7 +40,7 @@ static uint8_t *guarded(size_t size)
 }
 
 /* Two views of the same whole pages: what is lent, read only between guards, and what is filled. */
-static void make_input(size_t size, uint8_t **lent, uint8_t **filled)
+static inline void make_input(size_t size, uint8_t **lent, uint8_t **filled)
 {
     FILE *f = tmpfile();
 

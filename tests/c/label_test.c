@@ -11,6 +11,8 @@
 #include "guard.h"
 #include "plant.h"
 #include "tables.h"
+#include "codes.h"
+#include "output.h"
 
 /* ---- the case under way ---- */
 
@@ -25,13 +27,6 @@ static void print_case(void)
     for (size_t i = 0; i < shown; i++)
         printf("%s%u", i % ROW == 0 ? "  " : " ", table[i]);
     printf("%s\n", shown < numbers ? "  and so on" : "");
-}
-
-static void fail(const char *what, long long got, long long want)
-{
-    printf("MISMATCH: %s: %lld, expected %lld\n", what, got, want);
-    print_case();
-    exit(1);
 }
 
 /* ---- the model ---- */
@@ -99,30 +94,13 @@ static int tour(int entry, int number)
     return number;
 }
 
-/* The codes along the tour as text, from number 1 on; the open sides are empty. strcmp has 01's order. */
+/* The codes along the tour as text, from number 1 on; the open sides are empty. */
 static char codes[2 * ROWS + 2][LONGEST + 1];
 
-/* A code is made of another, its last digits cut off, and a tail. */
-static void make(char *code, const char *from, int cut, const char *tail)
+static void must_fit(int fits)
 {
-    if (snprintf(code, LONGEST + 1, "%.*s%s", (int)strlen(from) - cut, from, tail) > LONGEST)
+    if (!fits)
         fail_test("a code passes 127 digits");
-}
-
-static int ends_in(const char *code, char digit)
-{
-    return code[strlen(code) - 1] == digit;
-}
-
-/* The one code between. Here a longer right side ends in 2 and a longer left one in 3; the rule is 01's, for any two sides. */
-static void make_between(char *code, const char *left, const char *right)
-{
-    if (strlen(left) < strlen(right))
-        make(code, right, 1, ends_in(right, '2') ? "12" : "2");
-    else if (strlen(left) == strlen(right))
-        make(code, left, 0, "2");
-    else
-        make(code, left, ends_in(left, '2'), ends_in(left, '2') ? "3" : "2");
 }
 
 /* The codes of the gap between numbers p and q */
@@ -131,17 +109,17 @@ static void make_codes(int p, int q)
     int d = q - p, i = p + (d + 1) / 3, j = p + (2 * d + 1) / 3;
 
     if (d == 2)
-        make_between(codes[p + 1], codes[p], codes[q]);
+        must_fit(make_between(codes[p + 1], codes[p], codes[q]));
     if (d < 3)
         return;
     if (strlen(codes[p]) < strlen(codes[q])) {
         if (!ends_in(codes[q], '2'))
             fail_test("the longer right side of a gap does not end in 2");
-        make(codes[i], codes[q], 1, "12");
-        make(codes[j], codes[q], 1, "13");
+        must_fit(make(codes[i], codes[q], 1, "12"));
+        must_fit(make(codes[j], codes[q], 1, "13"));
     } else {
-        make(codes[i], codes[p], 0, "2");
-        make(codes[j], codes[p], 0, "3");
+        must_fit(make(codes[i], codes[p], 0, "2"));
+        must_fit(make(codes[j], codes[p], 0, "3"));
     }
     make_codes(p, i);
     make_codes(i, j);
@@ -162,72 +140,49 @@ static void model_register(int rows, uint8_t *to)
     put_32(to + 4, 0);
     for (int i = 0; i < rows; i++) {
         const struct entry *x = &entries[i];
-        uint8_t *at = to + HEADER + ENTRY * i;
-        put_32(at, table[ROW * i]);
-        put_32(at + 4, table[ROW * i + 1]);
-        put_field(at + 8, codes[x->start]);
-        put_field(at + 8 + FIELD, codes[x->end]);
-        put_field(at + 8 + 2 * FIELD, x->parent < 0 ? "" : codes[entries[x->parent].start]);
+        const char *above = x->parent < 0 ? "" : codes[entries[x->parent].start];
+        put_numbers(to, i, table[ROW * i], table[ROW * i + 1]);
+        put_label(to, i, codes[x->start], codes[x->end], above);
     }
 }
 
 /* ---- one case ---- */
 
-static size_t table_pages, register_pages; /* bytes of all pages */
-static uint8_t *table_lent, *table_filled, *register_lent, *register_wanted;
+static size_t table_pages; /* bytes of all pages */
+static uint8_t *table_lent, *table_filled;
 static unsigned long tally[5]; /* by refusal number; 0 accepted */
 
 static void make_buffers(void)
 {
     table_pages = whole_pages(sizeof table);
-    register_pages = whole_pages(HEADER + ENTRY * (size_t)MOST);
     make_input(table_pages, &table_lent, &table_filled);
-    register_lent = make_output(register_pages);
-    register_wanted = must_have(register_pages);
-}
-
-/* The pages that were lent from are as they were, but for the register. */
-static void check_register(size_t from, size_t size, size_t at)
-{
-    size_t i = from;
-
-    if (memcmp(register_lent + from, register_wanted + from, size) == 0)
-        return;
-    while (register_lent[i] == register_wanted[i])
-        i++;
-    printf("Byte %ld of the lent register is wrong after the call.\n", (long)i - (long)at);
-    if (i >= at + HEADER)
-        printf("It is byte %zu of entry %zu.\n", (i - at - HEADER) % ENTRY, (i - at - HEADER) / ENTRY);
-    fail("register byte", register_lent[i], register_wanted[i]);
+    make_output_pages();
 }
 
 /* Both buffers stand at the end of their pages, before a guard, or at the beginning, behind one. */
 static void try_table(void)
 {
     struct verdict v = model_verdict();
-    size_t bytes = numbers * sizeof *table, size = whole_pages(room);
+    size_t bytes = numbers * sizeof *table;
     int64_t want = -(100000 + v.number + INT64_C(1000000) * (int64_t)v.row);
 
     case_number++;
     for (side = 0; side < 2; side++) {
-        size_t table_at = side ? 0 : table_pages - bytes, at = side ? 0 : register_pages - room;
-        size_t from = side ? 0 : register_pages - size;
+        size_t table_at = side ? 0 : table_pages - bytes;
         memcpy(table_filled + table_at, table, bytes);
-        for (size_t i = from; i < from + size; i++)
-            register_lent[i] = (uint8_t)(0x35 + 29 * i + case_number);
-        memcpy(register_wanted + from, register_lent + from, size);
+        lend_output(room);
         if (v.number == 0) {
-            model_register((int)(numbers / ROW), register_wanted + at);
+            model_register((int)(numbers / ROW), output_wanted);
             want = (int64_t)(HEADER + ENTRY * (numbers / ROW));
         }
-        int64_t got = plant_label((const uint32_t *)(const void *)(table_lent + table_at), numbers, register_lent + at, room);
+        int64_t got = plant_label((const uint32_t *)(const void *)(table_lent + table_at), numbers, output, room);
         if (got != want)
             fail("answer", got, want);
         if (v.number > 0 && PLANT_REFUSAL_OF(got) != PLANT_REFUSED(v.number))
             fail("refusal out of the answer", PLANT_REFUSAL_OF(got), PLANT_REFUSED(v.number));
         if (v.number > 0 && PLANT_ROW_OF(got) != (int64_t)v.row)
             fail("row out of the answer", PLANT_ROW_OF(got), (int64_t)v.row);
-        check_register(from, size, at);
+        check_output();
     }
     tally[v.number]++;
 }
@@ -271,7 +226,7 @@ static void vector(const uint32_t *rows, size_t count, const char *text)
     memcpy(table, rows, numbers * sizeof *rows);
     try_rooms();
     for (size_t i = 0; to && i < count; i++) {
-        const uint8_t *at = register_lent + HEADER + ENTRY * i;
+        const uint8_t *at = output + HEADER + ENTRY * i;
         fprintf(to, "%d %d", at[0], at[4]); /* numbers below 256 */
         for (int k = 0; k < 3; k++)
             fprintf(to, " "), print_field(to, at + 8 + FIELD * k);

@@ -1,7 +1,7 @@
 /* The stack that each call of plant.h needs: it runs on a stack of its own, painted before, with a page below that may not be
  * touched. Inputs are the longest codes and tables and the largest registers, so that no call ends early. Answers are compared
- * too. A call may use LIMIT bytes, plant_label LABEL_LIMIT, a question on a register REGISTER_LIMIT. These run too on a thread
- * with no more than that above the least stack. */
+ * too. A call may use LIMIT bytes, plant_label LABEL_LIMIT, a question on a register or an edit of one REGISTER_LIMIT. These
+ * run too on a thread with no more than that above the least stack. */
 #define _DEFAULT_SOURCE
 #include <limits.h>
 #include <pthread.h>
@@ -20,8 +20,9 @@ enum { STACK = 131072, LIMIT = 1024, LABEL_LIMIT = 49152, REGISTER_LIMIT = 65536
 static uint8_t digits[PLANT_LONGEST], left[PLANT_FIELD], right[PLANT_FIELD], made[PLANT_FIELD], read_back[PLANT_LONGEST];
 static uint8_t upper[PLANT_LABEL], lower[PLANT_LABEL];
 static uint32_t table[PLANT_ROW * PLANT_ROWS];
-static uint8_t reg[PLANT_HEADER + PLANT_ENTRY * PLANT_ROWS];
+static uint8_t reg[PLANT_HEADER + PLANT_ENTRY * PLANT_ROWS], kept[sizeof reg];
 static size_t room = sizeof reg;
+static uint32_t row, target; /* the row that is made, the target of an edit */
 static int64_t answer;
 static void (*under_way)(void); /* in a thread */
 
@@ -38,6 +39,14 @@ static void place(void) { answer = plant_place(reg, sizeof reg, PLANT_ROWS); }
 static void depth(void) { answer = plant_depth(reg, sizeof reg, PLANT_ROWS); }
 static void distance(void) { answer = plant_distance(reg, sizeof reg, PLANT_ROWS, 1); }
 static void absent(void) { answer = plant_distance(reg, sizeof reg, PLANT_ROWS, 0); }
+
+/* Each edit begins with the register that was kept. */
+static uint8_t *again(void) { return memcpy(reg, kept, sizeof reg); }
+static void insert_first(void) { answer = plant_insert_first(again(), sizeof reg, target, PLANT_ROWS + 1, 0); }
+static void insert_last(void) { answer = plant_insert_last(again(), sizeof reg, target, PLANT_ROWS + 1, 0); }
+static void insert_before(void) { answer = plant_insert_before(again(), sizeof reg, target, PLANT_ROWS + 1, 0); }
+static void insert_after(void) { answer = plant_insert_after(again(), sizeof reg, target, PLANT_ROWS + 1, 0); }
+static void delete(void) { answer = plant_delete(again(), sizeof reg, target); }
 
 static void *in_thread(void *unused)
 {
@@ -102,6 +111,7 @@ static void make_label(uint8_t *to, size_t start, uint8_t start_last, size_t end
 static void make_table(uint32_t (*depth)(uint32_t))
 {
     for (uint32_t i = 0; i < PLANT_ROWS; i++) {
+        row = i;
         table[PLANT_ROW * i] = i + 1;
         table[PLANT_ROW * i + 2] = i == 0 ? 0 : depth(table[PLANT_ROW * (i - 1) + 2]);
     }
@@ -109,12 +119,7 @@ static void make_table(uint32_t (*depth)(uint32_t))
 
 static uint32_t flat(uint32_t previous) { return previous > 0 ? previous : 1; }
 static uint32_t chains(uint32_t previous) { return previous < 63 ? previous + 1 : 1; }
-static uint32_t last_deepest(uint32_t previous)
-{
-    static uint32_t made; /* rows after the first */
-
-    return ++made <= PLANT_ROWS - 63 ? 1 : previous < 63 ? previous + 1 : 1;
-}
+static uint32_t last_deepest(uint32_t previous) { return row <= PLANT_ROWS - 63 ? 1 : chains(previous); }
 static uint32_t random_depth(uint32_t previous) { return 1 + (uint32_t)rand() % (previous < 63 ? previous + 1 : 63); }
 
 /* Runs a call and answers whether its answer or its stack is wrong. */
@@ -219,6 +224,60 @@ static int wrong_registers(void)
     return bad;
 }
 
+/* A register of a table of a shape, one entry taken out, so that there is room for another. */
+static void make_room(uint32_t (*depth)(uint32_t), uint32_t identity)
+{
+    make_table(depth);
+    label();
+    if (plant_delete(reg, sizeof reg, identity) < 0)
+        exit(2);
+}
+
+/* The five edits of the register as it stands, aimed at one entry */
+static int wrong_edits(const char *shape, uint32_t aimed, const int64_t expected[5])
+{
+    static const struct call edits[] = {
+        {"plant_insert_first", insert_first, 0},   {"plant_insert_last", insert_last, 0},
+        {"plant_insert_before", insert_before, 0}, {"plant_insert_after", insert_after, 0},
+        {"plant_delete", delete, 0},
+    };
+    int bad = 0;
+
+    printf("edits of a register, %s, aimed at entry %u:\n", shape, aimed);
+    memcpy(kept, reg, sizeof reg);
+    target = aimed;
+    for (size_t i = 0; i < 5; i++)
+        bad |= wrong(edits[i].name, edits[i].run, expected[i], REGISTER_LIMIT);
+    again();
+    return bad;
+}
+
+static int wrong_all_edits(void)
+{
+    const uint32_t last = PLANT_ROWS;
+    const int64_t refused = PLANT_NO_REGISTER;
+    int bad = 0;
+
+    make_room(flat, 2);
+    bad |= wrong_edits("flat", 1, (int64_t[]){1, last - 1, PLANT_ROOT, PLANT_ROOT, PLANT_ROOT});
+    bad |= wrong_edits("flat", last, (int64_t[]){last - 1, last - 1, last - 2, last - 1, last - 2});
+    make_room(chains, last);
+    bad |= wrong_edits("chains", 64, (int64_t[]){PLANT_DEPTH, PLANT_DEPTH, 63, 64, 63});
+    label();
+    bad |= wrong_edits("chains, full", 63, (int64_t[]){PLANT_ROOM, PLANT_ROOM, PLANT_ROOM, PLANT_ROOM, PLANT_CHILDREN});
+    make_room(last_deepest, 2);
+    bad |= wrong_edits("the last at depth 63", last - 1, (int64_t[]){last - 2, last - 1, last - 3, last - 1, PLANT_CHILDREN});
+    bad |= wrong_edits("the last at depth 63", last, (int64_t[]){PLANT_DEPTH, PLANT_DEPTH, last - 2, last - 1, last - 2});
+    bad |= wrong_in_thread("plant_insert_after", insert_after, last - 1, REGISTER_LIMIT);
+    bad |= wrong_in_thread("plant_delete", delete, last - 2, REGISTER_LIMIT);
+    make_chain(63);
+    bad |= wrong_edits("one chain down to depth 62, long codes", last, (int64_t[]){63, 63, 62, 63, 62});
+    bad |= wrong_edits("the same", 1, (int64_t[]){PLANT_CODE_LENGTH, 63, PLANT_ROOT, PLANT_ROOT, PLANT_ROOT});
+    reg[4] = 1;
+    bad |= wrong_edits("the second number not 0", 1, (int64_t[]){refused, refused, refused, refused, refused});
+    return bad;
+}
+
 int main(void)
 {
     int bad = 0;
@@ -240,6 +299,7 @@ int main(void)
     bad |= wrong_label("plant_label, chains", sizeof reg);
     bad |= wrong_in_thread("plant_label", label, sizeof reg, LABEL_LIMIT);
     bad |= wrong_registers();
+    bad |= wrong_all_edits();
     make_table(chains);
     room--;
     bad |= wrong_label("plant_label, no room", PLANT_ROOM);

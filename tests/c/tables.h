@@ -1,4 +1,5 @@
-/* What the tests of tables and of registers share: the case under way, random tables, and a register's parts put in their places. Needs guard.h. */
+/* What the tests of tables, of registers and of edits share: the case under way, random tables, and a register's parts put in
+ * their places. Needs guard.h. */
 
 /* 01's numbers, stated here once more on purpose. */
 enum { LONGEST = 127, FIELD = 32, ROW = 3, ROWS = 4096, DEEPEST = 63, HEADER = 8, ENTRY = 104 };
@@ -102,4 +103,21 @@ static void put_32(uint8_t *to, uint32_t x)
 {
     for (int i = 0; i < 4; i++, x /= 256)
         to[i] = (uint8_t)(x % 256);
+}
+
+/* Entry i's identity and tag */
+static void put_numbers(uint8_t *to, int i, uint32_t identity, uint32_t tag)
+{
+    put_32(to + HEADER + ENTRY * i, identity);
+    put_32(to + HEADER + ENTRY * i + 4, tag);
+}
+
+/* Entry i's label; the parent start is empty for the root */
+static inline void put_label(uint8_t *to, int i, const char *start, const char *end, const char *parent_start)
+{
+    uint8_t *at = to + HEADER + ENTRY * i + 8;
+
+    put_field(at, start);
+    put_field(at + FIELD, end);
+    put_field(at + 2 * FIELD, parent_start);
 }

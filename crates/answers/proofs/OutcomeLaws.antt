@@ -1,17 +1,35 @@
 -- Laws of outcomes: what a call has to show of its answer and of the lent bytes, and that only one outcome is right.
 -- Assumes nothing.
 use mathlib.Core.Path.{_≡_, refl, sym, ap, _∙_}
-use mathlib.Core.Bool.{false}
+use mathlib.Core.Bool.{Bool, true, false}
 use mathlib.Core.List.{List}
 use Prim.Native.Nat.{ℕ}
+use native.Mathlib.Omega.{arith}
 use Rattle.answers.specs.declared.Answer.{Answer}
-use Rattle.answers.specs.declared.Answer.the-variants.{Refused}
+use Rattle.answers.specs.declared.Answer.the-variants.{Accepted, Refused}
 use Rattle.answers.specs.declared.Refusal.{Refusal}
-use Rattle.answers.specs.Outcome.{Outcome, unless}
+use Rattle.answers.specs.Outcome.{Outcome, accepted, unless}
 
 -- a refusal leaves every lent byte, and is answered where its test fails
 pub unless-fails : (r : Refusal) (b : List ℕ) (o : Outcome) → unless false r b o ≡ record { answer = Refused r; bytes = b }
 unless-fails r b o = refl
+
+-- where something is accepted, the test held
+pub unless-accepted : (t : Bool) (r : Refusal) (b : List ℕ) (o : Outcome) (n : ℕ) → unless t r b o .answer ≡ Accepted n
+    → (t ≡ true) × (o .answer ≡ Accepted n)
+unless-accepted true r b o n e = (refl, e)
+unless-accepted false r b o n e = let z : _≡_ {A = ℕ} 0 1 = cc in absurd (omega arith)
+
+-- an outcome that leaves every byte where it is a refusal
+abbrev pub Keeps : List ℕ → Outcome → Type 0
+Keeps b o = (r : Refusal) → o .answer ≡ Refused r → o .bytes ≡ b
+
+pub keeps-unless : (t : Bool) (r : Refusal) (b : List ℕ) (o : Outcome) → Keeps b o → Keeps b (unless t r b o)
+keeps-unless true r b o k s e = k s e
+keeps-unless false r b o k s e = refl
+
+pub keeps-accepted : (b c : List ℕ) (n : ℕ) → Keeps b (accepted n c)
+keeps-accepted b c n r e = let z : _≡_ {A = ℕ} 0 1 = cc in absurd (omega arith)
 
 -- a call whose outcome is known gives that answer and leaves those bytes
 pub gives : (o : Outcome) (a b : Answer) (x y : List ℕ) → o ≡ record { answer = a; bytes = x } → b ≡ a → y ≡ x

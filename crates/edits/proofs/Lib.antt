@@ -3,3 +3,4 @@ pub mod SpliceLaws
 pub mod SearchLaws
 pub mod PlaceLaws
 pub mod OutcomeLaws
+pub mod SignableLaws

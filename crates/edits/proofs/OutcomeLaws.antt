@@ -12,6 +12,7 @@ use Rattle.answers.specs.Outcome.{accepted, refused}
 use Rattle.codes.specs.Code.{longest}
 use Rattle.identities.specs.Identities.{among?}
 use Rattle.identities.specs.Rows.{fresh?}
+use Rattle.identities.proofs.RowLaws.{fresh-zero, fresh-used, fresh-right}
 use Rattle.trees.specs.Forest.{Forest}
 use Rattle.trees.specs.Labelled.{Name, Entry}
 use Rattle.trees.specs.Edit.{Where, inside?, Spot, ahead, levelAt, spotOf, leaf?}
@@ -126,15 +127,14 @@ among-found x i j (y ∷ ys) e = go (eqb x y) (λ k. among-found x (suc i) j ys 
     go false more k = more k
 
 module _ (b : List ℕ) (x : ℕ) where
-  pub fresh-zero : x ≡ 0 → false ≡ fresh? x (identities (linesOf b))
-  fresh-zero e = rw e refl
+  pub zero-identity : x ≡ 0 → false ≡ fresh? x (identities (linesOf b))
+  zero-identity e = sym (fresh-zero x (identities (linesOf b)) e)
 
-  module _ (h : (x ≡ 0) → ⊥) where
-    pub fresh-found : (j : ℕ) → foundIn b x ≡ At j → false ≡ fresh? x (identities (linesOf b))
-    fresh-found j e = rw (ne-eqb x 0 h, among-found x 0 j (identities (linesOf b)) e) refl
+  pub found-identity : (j : ℕ) → foundIn b x ≡ At j → false ≡ fresh? x (identities (linesOf b))
+  found-identity j e = sym (fresh-used x (identities (linesOf b)) (among-found x 0 j (identities (linesOf b)) e))
 
-    pub fresh-new : foundIn b x ≡ Nothing → true ≡ fresh? x (identities (linesOf b))
-    fresh-new e = rw (ne-eqb x 0 h, found-among x 0 (identities (linesOf b)) e) refl
+  pub new-identity : ((x ≡ 0) → ⊥) → foundIn b x ≡ Nothing → true ≡ fresh? x (identities (linesOf b))
+  new-identity h e = sym (fresh-right x (identities (linesOf b)) (h, found-among x 0 (identities (linesOf b)) e))
 
 -- room for one more
 module _ (b : List ℕ) where

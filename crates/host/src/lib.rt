@@ -1,12 +1,15 @@
-// The calls of `codes`, `labels`, `registers` and `tables` for a host program in C, as include/plant.h declares them.
+// The calls of `codes`, `labels`, `registers`, `tables` and `edits` for a host program in C, as include/plant.h declares them.
 // Each turns an answer into a number.
 ghost use mathlib.Core.Path.{_≡_};
 ghost use Rattle.answers.specs.Signed.{signedOf, signedRowOf};
 ghost use Rattle.codes.specs.Calls.{packOutcome, unpackOutcome, betweenOutcome};
 ghost use Rattle.registers.specs.Questions.{placeAnswer, depthAnswer, distanceAnswer};
 ghost use Rattle.tables.specs.Labelling.{labelOutcome};
+ghost use Rattle.edits.specs.Edits.{applyOutcome};
 ghost use Rattle.labels.specs.Questions.{orderAnswer, aboveAnswer, parentAnswer, siblingAnswer};
 use codes::Code;
+use edits::Edit;
+use edits::Place;
 
 #[no_mangle]
 pub extern "C" fn plant_order(u: &[u8], v: &[u8]) -> i32
@@ -87,4 +90,108 @@ pub extern "C" fn plant_distance(register: &[u8], x: u32, y: u32) -> i32
     ensures answer { λ r. ⌜ r ≡ distanceAnswer (now (register .entry)) x y ⌝ }
 {
     registers::distance(register, x, y)
+}
+
+#[no_mangle]
+pub extern "C" fn plant_insert_first(
+    register: &mut [u8],
+    target: u32,
+    identity: u32,
+    tag: u32,
+) -> i32
+    ensures answer { λ r. ⌜ r ≡ signedOf
+        (applyOutcome (now (register .entry)) (Edit.Insert (Place.FirstChildOf target) identity tag) .answer) ⌝ }
+    ensures bytes { λ _. ⌜ now (register .exit)
+        ≡ applyOutcome (now (register .entry)) (Edit.Insert (Place.FirstChildOf target) identity tag) .bytes ⌝ }
+{
+    applied(
+        register,
+        Edit::Insert {
+            place: Place::FirstChildOf(target),
+            identity,
+            tag,
+        },
+    )
+}
+
+#[no_mangle]
+pub extern "C" fn plant_insert_last(
+    register: &mut [u8],
+    target: u32,
+    identity: u32,
+    tag: u32,
+) -> i32
+    ensures answer { λ r. ⌜ r ≡ signedOf
+        (applyOutcome (now (register .entry)) (Edit.Insert (Place.LastChildOf target) identity tag) .answer) ⌝ }
+    ensures bytes { λ _. ⌜ now (register .exit)
+        ≡ applyOutcome (now (register .entry)) (Edit.Insert (Place.LastChildOf target) identity tag) .bytes ⌝ }
+{
+    applied(
+        register,
+        Edit::Insert {
+            place: Place::LastChildOf(target),
+            identity,
+            tag,
+        },
+    )
+}
+
+#[no_mangle]
+pub extern "C" fn plant_insert_before(
+    register: &mut [u8],
+    target: u32,
+    identity: u32,
+    tag: u32,
+) -> i32
+    ensures answer { λ r. ⌜ r ≡ signedOf
+        (applyOutcome (now (register .entry)) (Edit.Insert (Place.Before target) identity tag) .answer) ⌝ }
+    ensures bytes { λ _. ⌜ now (register .exit)
+        ≡ applyOutcome (now (register .entry)) (Edit.Insert (Place.Before target) identity tag) .bytes ⌝ }
+{
+    applied(
+        register,
+        Edit::Insert {
+            place: Place::Before(target),
+            identity,
+            tag,
+        },
+    )
+}
+
+#[no_mangle]
+pub extern "C" fn plant_insert_after(
+    register: &mut [u8],
+    target: u32,
+    identity: u32,
+    tag: u32,
+) -> i32
+    ensures answer { λ r. ⌜ r ≡ signedOf
+        (applyOutcome (now (register .entry)) (Edit.Insert (Place.After target) identity tag) .answer) ⌝ }
+    ensures bytes { λ _. ⌜ now (register .exit)
+        ≡ applyOutcome (now (register .entry)) (Edit.Insert (Place.After target) identity tag) .bytes ⌝ }
+{
+    applied(
+        register,
+        Edit::Insert {
+            place: Place::After(target),
+            identity,
+            tag,
+        },
+    )
+}
+
+#[no_mangle]
+pub extern "C" fn plant_delete(register: &mut [u8], target: u32) -> i32
+    ensures answer { λ r. ⌜ r ≡ signedOf (applyOutcome (now (register .entry)) (Edit.Delete target) .answer) ⌝ }
+    ensures bytes { λ _. ⌜ now (register .exit) ≡ applyOutcome (now (register .entry)) (Edit.Delete target) .bytes ⌝ }
+{
+    applied(register, Edit::Delete { target })
+}
+
+// An edit, its answer as a number.
+fn applied(register: &mut [u8], edit: Edit) -> i32
+    ensures answer { λ r. ⌜ r ≡ signedOf (applyOutcome (now (register .entry)) edit .answer) ⌝ }
+    ensures bytes { λ _. ⌜ now (register .exit) ≡ applyOutcome (now (register .entry)) edit .bytes ⌝ }
+{
+    edits::apply(register, edit).signed()
 }

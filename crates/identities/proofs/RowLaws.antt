@@ -59,6 +59,11 @@ unless-first x y used h = go (eqb x y) refl h
     go true e f = absurd (false≢true (sym f))
     go false e f = (λ i. eqb-false x y e (sym i), f)
 
+-- not among others, so different from each
+pub differs : (x : ℕ) (used : List ℕ) → among? x used ≡ false → All (λ y. x ≢ y) used
+differs x [] h = tt
+differs x (y ∷ used) h = let k = unless-first x y used h in (λ e. k .0 (sym e), differs x used (k .1))
+
 -- what is new behind an identity, too, differs from it and is new without it
 pub others : (y : ℕ) (used xs : List ℕ) → All (New (y ∷ used)) xs → All (λ x. y ≢ x) xs
 others y used xs h = all-map (New (y ∷ used)) (λ x. y ≢ x) (λ x p. unless-first x y used (p .1) .0) xs h
