@@ -4,3 +4,4 @@ pub mod SearchLaws
 pub mod PlaceLaws
 pub mod OutcomeLaws
 pub mod SignableLaws
+pub mod HoldsLaws

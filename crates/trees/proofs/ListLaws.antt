@@ -4,7 +4,7 @@ use mathlib.Core.Path.{_≡_, refl, sym, ap}
 use mathlib.Core.Logic.{_⊎_, inl, inr, _≢_}
 use mathlib.Core.List.{List, [], _∷_, _++_, map, head-eq-of-cons-eq, tail-eq-of-cons-eq, nil≢cons, cons≢nil}
 use Rattle.digits.specs.Lists.{All, Distinct}
-use Rattle.digits.proofs.ListLaws.{all-map}
+use Rattle.digits.proofs.ListLaws.{all-map, all-part, all-join}
 use Rattle.trees.specs.Lists.{Member, Earlier, Pairs}
 
 module _ {A : Type 0} (P : A → Type 0) where
@@ -117,6 +117,20 @@ module _ {A : Type 0} where
       go : ((v : A) → Member v xs → Member v ys → ⊥) → (v : A) → Member v (x ∷ xs) → Member v ys → ⊥
       go r v (inl e) k = all→ (λ y. x ≢ y) (xs ++ ys) (d .0) v (member-right xs ys v k) (sym e)
       go r v (inr h) k = r v h k
+
+  -- one more in the middle that differs from all, and one fewer
+  pub distinct-put : (a : A) (xs ys : List A) → All (λ y. a ≢ y) (xs ++ ys) → Distinct (xs ++ ys) → Distinct (xs ++ (a ∷ ys))
+  distinct-put a [] ys n d = (n, d)
+  distinct-put a (x ∷ xs) ys n d = (
+    all-join (λ y. x ≢ y) xs ys a (all-left (λ y. x ≢ y) xs ys (d .0)) (λ e. n .0 (sym e)) (all-right (λ y. x ≢ y) xs ys (d .0)),
+    distinct-put a xs ys (n .1) (d .1),
+  )
+
+  pub distinct-cut : (a : A) (xs ys : List A) → Distinct (xs ++ (a ∷ ys)) → Distinct (xs ++ ys)
+  distinct-cut a [] ys d = d .1
+  distinct-cut a (x ∷ xs) ys d =
+      let p = all-part (λ y. x ≢ y) xs ys a (d .0) in
+      (all-append (λ y. x ≢ y) xs ys (p .0) (p .2), distinct-cut a xs ys (d .1))
 
   pub earlier-members : (xs : List A) (u v : A) → Earlier u v xs → Member u xs × Member v xs
   earlier-members [] u v h = absurd h

@@ -1,0 +1,262 @@
+-- An edit of a register is the edit of the tree that it holds: accepted, the tree with the new leaf or without the old one; refused,
+-- no byte changed. Assumes nothing.
+use mathlib.Core.Path.{_≡_, refl, sym, ap, _∙_, subst}
+use mathlib.Core.Logic.{_≢_}
+use mathlib.Core.Bool.{Bool, true, and-eq-true-iff}
+use mathlib.Core.List.{List, [], _∷_, _++_, map}
+use Prim.Native.Nat.{ℕ, suc, _+_, _≤_, _<_}
+use native.Mathlib.Omega.{arith}
+use lib.Dec.{leb, ltb}
+use lib.ListN.{length, take}
+use borrow.Author.Tests.{leb-true, ltb-true}
+use Rattle.digits.specs.Lists.{All, Distinct}
+use Rattle.digits.proofs.ListLaws.{all-part, all-join}
+use Rattle.answers.specs.declared.Answer.{Answer}
+use Rattle.answers.specs.declared.Answer.the-variants.{Accepted, Refused}
+use Rattle.answers.specs.declared.Refusal.{Refusal}
+use Rattle.answers.specs.declared.Refusal.the-variants.{Identity, Room, Register, Target, Root, CodeLength, Children, Depth}
+use Rattle.answers.specs.Outcome.{Outcome, accepted, refused}
+use Rattle.answers.proofs.OutcomeLaws.{unless-accepted, Keeps, keeps-unless, keeps-accepted}
+use Rattle.codes.specs.Code.{longest, IsCode}
+use Rattle.identities.specs.Rows.{fresh?}
+use Rattle.identities.proofs.RowLaws.{new, differs}
+use Rattle.trees.specs.Forest.{Forest, size, preorder, Rooted}
+use Rattle.trees.specs.Labelled.{Name, Entry, Sound}
+use Rattle.trees.specs.Edit.{Where, Spot, leaf, put, ahead, behind, levelAt, spotOf, leaf?, without}
+use Rattle.trees.specs.Neighbours.{newEntry, insertedEntry}
+use Rattle.trees.proofs.ListLaws.{all-left, all-right, all-append, distinct-put, distinct-cut, map-append}
+use Rattle.trees.proofs.ForestLaws.{length-preorder}
+use Rattle.trees.proofs.EditLaws.{order-spot, order-put, size-put, taken, rooted-inserted, rooted-without}
+use Rattle.trees.proofs.NeighbourLaws.{inserted-sound, sound-cut}
+use Rattle.registers.specs.declared.Found.{Found}
+use Rattle.registers.specs.declared.Found.the-variants.{At, Nothing}
+use Rattle.registers.specs.Layout.{deepest, entryPlace}
+use Rattle.registers.specs.Entries.{registerBytes}
+use Rattle.registers.specs.Holds.{identities, Whole, Holds}
+use Rattle.registers.specs.Questions.{countOf, linesOf, registerSound?, foundIn, treeOf}
+use Rattle.registers.proofs.RowLaws.{lines-length}
+use Rattle.registers.proofs.EntryLaws.{register-length}
+use Rattle.registers.proofs.QuestionLaws.{found-inside}
+use Rattle.registers.proofs.HoldsLaws.{lines-held, holds-sound}
+use Rattle.registers.proofs.AnswerLaws.{tree-held}
+use Rattle.edits.specs.Splice.{insertedBytes, deletedBytes}
+use Rattle.edits.specs.declared.Edit.{Edit}
+use Rattle.edits.specs.declared.Edit.the-variants.{Insert, Delete}
+use Rattle.edits.specs.Edits.{parented?, room?, fits?, putOutcome, insertAt, insertFound, insertOutcome, deleteAt, deleteFound, deleteOutcome, applyOutcome}
+use Rattle.edits.proofs.SpliceLaws.{inserted-holds, deleted-holds}
+use Rattle.edits.proofs.PlaceLaws.{inner}
+use Rattle.edits.proofs.OutcomeLaws.{insert-absent, insert-found, at-put, put-done, delete-absent, delete-found, delete-leaf, room-for}
+
+abbrev identity : Entry Name → ℕ
+identity u = u .name .identity
+
+-- the identities with one more in the middle
+with-identity : (us vs : List (Entry Name)) (x : Entry Name)
+    → identities (us ++ (x ∷ vs)) ≡ identities us ++ (identity x ∷ identities vs)
+with-identity us vs x = map-append identity us (x ∷ vs)
+
+-- what a register that holds a tree says of it
+module _ (b : List ℕ) (f : Forest (Entry Name)) (h : Holds b f) where
+  pub count-size : countOf b ≡ size f
+  count-size = sym (lines-length b 0 (countOf b)) ∙ ap length (lines-held b f h) ∙ length-preorder f
+
+  whole-part : take (entryPlace (length (preorder f))) b ≡ registerBytes (preorder f)
+  whole-part = ap (λ (n : ℕ). take n b) (sym (register-length (preorder f))) ∙ h .bytes
+
+  count-lines : countOf b ≡ length (preorder f)
+  count-lines = count-size ∙ sym (length-preorder f)
+
+  -- 01, Edit: an entry put in with the codes between its neighbours
+  module _ (w : Where) (i : ℕ) (m : Name) (k : i < size f) (p : 0 < levelAt f (spotOf w i f))
+      (new? : fresh? (m .identity) (identities (preorder f)) ≡ true) (deep : levelAt f (spotOf w i f) ≤ deepest) (room : room? b ≡ true)
+      (start : length (newEntry m f (spotOf w i f) .start) ≤ longest) (end : length (newEntry m f (spotOf w i f) .end) ≤ longest) where
+    abbrev q : Spot f
+    q = spotOf w i f
+
+    abbrev x : Entry Name
+    x = newEntry m f q
+
+    order : preorder (put (leaf x) f q) ≡ ahead f q ++ (x ∷ behind f q)
+    order = order-put (leaf x) f q
+
+    inserted-identities : identities (preorder (put (leaf x) f q)) ≡ identities (ahead f q) ++ (m .identity ∷ identities (behind f q))
+    inserted-identities = ap identities order ∙ with-identity (ahead f q) (behind f q) x
+
+    old-identities : identities (preorder f) ≡ identities (ahead f q) ++ identities (behind f q)
+    old-identities = ap identities (order-spot f q) ∙ map-append identity (ahead f q) (behind f q)
+
+    inserted-whole : Whole (insertedEntry w i m f)
+    inserted-whole =
+        let us = identities (ahead f q) in
+        let vs = identities (behind f q) in
+        let n = new (m .identity) (identities (preorder f)) new? in
+        let r = subst (All (λ y. y ≢ 0)) old-identities (h .whole .real) in
+        record {
+          rooted = rooted-inserted w i (leaf x) f (h .whole .rooted) k p;
+          most = omega (arith, size-put (leaf x) f q, count-size, room-for b room .0);
+          real =
+              subst (All (λ y. y ≢ 0)) (sym inserted-identities)
+              (all-join (λ y. y ≢ 0) us vs (m .identity) (all-left (λ y. y ≢ 0) us vs r) (n .0) (all-right (λ y. y ≢ 0) us vs r));
+          distinct =
+              subst Distinct (sym inserted-identities)
+              (distinct-put (m .identity) us vs
+              (subst (All (λ y. m .identity ≢ y)) old-identities (differs (m .identity) (identities (preorder f)) (n .1)))
+              (subst Distinct old-identities (h .whole .distinct)));
+          sound = inserted-sound longest (suc deepest) f q (h .whole .sound) m longest (omega arith) (omega arith) start end;
+        }
+
+    pub inserted-held : Holds (insertedBytes b (length (ahead f q)) x) (insertedEntry w i m f)
+    inserted-held = record {
+      whole = inserted-whole;
+      bytes =
+          subst (λ us. take (length (registerBytes us)) (insertedBytes b (length (ahead f q)) x) ≡ registerBytes us) (sym order)
+          (inserted-holds b (preorder f) (ahead f q) (behind f q) x count-lines whole-part (order-spot f q));
+    }
+
+  -- 01, Edit: a leaf that is not the root taken out
+  pub deleted-held : (i : ℕ) → i < size f → 0 < i → leaf? i f ≡ true → Holds (deletedBytes b i) (without i f)
+  deleted-held i k p l =
+      let t = taken f i k l in
+      let g = t .rest in
+      let q = t .spot in
+      let u = t .entry in
+      let us = ahead g q in
+      let vs = behind g q in
+      let o : preorder f ≡ us ++ (u ∷ vs) = ap preorder (sym (t .put-back)) ∙ order-put (leaf u) g q in
+      let n : identities (preorder f) ≡ identities us ++ (identity u ∷ identities vs) = ap identities o ∙ with-identity us vs u in
+      let m : identities (preorder g) ≡ identities us ++ identities vs = ap identities (order-spot g q) ∙ map-append identity us vs in
+      let r = all-part (λ y. y ≢ 0) (identities us) (identities vs) (identity u) (subst (All (λ y. y ≢ 0)) n (h .whole .real)) in
+      subst (Holds (deletedBytes b i)) (sym (t .taken-out))
+      (record {
+        whole = record {
+          rooted = subst Rooted (t .taken-out) (rooted-without i f (h .whole .rooted) k p);
+          most = omega (arith, size-put (leaf u) g q, ap size (t .put-back), h .whole .most);
+          real = subst (All (λ y. y ≢ 0)) (sym m) (all-append (λ y. y ≢ 0) (identities us) (identities vs) (r .0) (r .2));
+          distinct = subst Distinct (sym m) (distinct-cut (identity u) (identities us) (identities vs) (subst Distinct n (h .whole .distinct)));
+          sound = sound-cut IsCode (suc deepest) (leaf u) g q
+              (subst (Sound IsCode (suc deepest) [] [] []) (sym (t .put-back)) (h .whole .sound));
+        };
+        bytes =
+            subst (λ ws. take (length (registerBytes ws)) (deletedBytes b i) ≡ registerBytes ws) (sym (order-spot g q))
+            (subst (λ (j : ℕ). take (length (registerBytes (us ++ vs))) (deletedBytes b j) ≡ registerBytes (us ++ vs)) (t .place)
+            (deleted-holds b (preorder f) us vs u count-lines whole-part o));
+      })
+
+-- an accepted insertion: its target is found, and the buffer holds the tree with the new leaf, whose place is answered
+pub record Inserted (b : List ℕ) (w : Where) (t : ℕ) (m : Name) (f : Forest (Entry Name)) (n : ℕ) : Type 0 where
+  pub number : ℕ
+  pub target : foundIn b t ≡ At number
+  pub place : n ≡ length (ahead f (spotOf w number f))
+  pub holds : Holds (insertOutcome b w t m .bytes) (insertedEntry w number m f)
+
+-- an accepted deletion: its target's place is answered, and the buffer holds the tree without it
+pub record Deleted (b : List ℕ) (t : ℕ) (f : Forest (Entry Name)) (n : ℕ) : Type 0 where
+  pub target : foundIn b t ≡ At n
+  pub leafy : leaf? n f ≡ true
+  pub holds : Holds (deleteOutcome b t .bytes) (without n f)
+
+answered : (o : Outcome) (n k : ℕ) (c : List ℕ) → o ≡ accepted k c → o .answer ≡ Accepted n → n ≡ k
+answered o n k c e a = let z : Accepted n ≡ Accepted k = sym a ∙ ap (λ (p : Outcome). p .answer) e in cc
+
+not-accepted : {A : Type 0} (r : Refusal) (b : List ℕ) (n : ℕ) → refused r b .answer ≡ Accepted n → A
+not-accepted r b n e = let z : _≡_ {A = ℕ} 0 1 = cc in absurd (omega arith)
+
+-- in terms of the tree that the lines stand for
+module _ (b : List ℕ) (h : Holds b (treeOf (linesOf b))) where
+  abbrev g : Forest (Entry Name)
+  g = treeOf (linesOf b)
+
+  sound-here : registerSound? b ≡ true
+  sound-here = holds-sound b g h
+
+  inside-tree : (t i : ℕ) → foundIn b t ≡ At i → i < size g
+  inside-tree t i e = omega (arith, found-inside b t i e, count-size b g h)
+
+  insert-here : (w : Where) (t : ℕ) (m : Name) (n : ℕ) → insertOutcome b w t m .answer ≡ Accepted n → Inserted b w t m g n
+  insert-here w t m n a = go (foundIn b t) refl
+    where
+      found : (i : ℕ) → foundIn b t ≡ At i → Inserted b w t m g n
+      found i k =
+          let q = spotOf w i g in
+          let x = newEntry m g q in
+          let o = insert-found b w t m sound-here i k in
+          let a0 = ap (λ (p : Outcome). p .answer) (sym o) ∙ a in
+          let a1 = unless-accepted (parented? w i) Root b _ n a0 in
+          let a2 = unless-accepted (fresh? (m .identity) (identities (linesOf b))) Identity b _ n (a1 .1) in
+          let a3 = unless-accepted (leb (levelAt g q) deepest) Depth b _ n (a2 .1) in
+          let a4 = unless-accepted (room? b) Room b _ n (a3 .1) in
+          let a5 = unless-accepted (fits? x) CodeLength b _ n (a4 .1) in
+          let z = and-eq-true-iff (leb (length (x .start)) longest) (leb (length (x .end)) longest) .0 (a5 .0) in
+          let s = leb-true (length (x .start)) longest (z .0) in
+          let e = leb-true (length (x .end)) longest (z .1) in
+          let d = leb-true (levelAt g q) deepest (a3 .0) in
+          let y = o ∙ at-put b w i m (a1 .0) (a2 .0) d (a4 .0) ∙ put-done b m g q s e in
+          record {
+            number = i;
+            target = k;
+            place = answered (insertOutcome b w t m) n (length (ahead g q)) (insertedBytes b (length (ahead g q)) x) y a;
+            holds =
+                subst (λ (p : Outcome). Holds (p .bytes) (insertedEntry w i m g)) (sym y)
+                (inserted-held b g h w i m (inside-tree t i k) (inner b sound-here w i (found-inside b t i k) (a1 .0))
+                (subst (λ us. fresh? (m .identity) (identities us) ≡ true) (lines-held b g h) (a2 .0)) d (a4 .0) s e);
+          }
+
+      go : (k : Found) → foundIn b t ≡ k → Inserted b w t m g n
+      go (At i) k = found i k
+      go Nothing k =
+          not-accepted Target b n (ap (λ (p : Outcome). p .answer) (sym (insert-absent b w t m sound-here k)) ∙ a)
+
+  delete-here : (t n : ℕ) → deleteOutcome b t .answer ≡ Accepted n → Deleted b t g n
+  delete-here t n a = go (foundIn b t) refl
+    where
+      found : (i : ℕ) → foundIn b t ≡ At i → Deleted b t g n
+      found i k =
+          let o = delete-found b t sound-here i k in
+          let a1 = unless-accepted (ltb 0 i) Root b _ n (ap (λ (p : Outcome). p .answer) (sym o) ∙ a) in
+          let a2 = unless-accepted (leaf? i g) Children b _ n (a1 .1) in
+          let p = ltb-true 0 i (a1 .0) in
+          let y = o ∙ delete-leaf b i (λ e. omega arith) (a2 .0) in
+          let j : i ≡ n = sym (answered (deleteOutcome b t) n i (deletedBytes b i) y a) in
+          subst (Deleted b t g) j
+          (record {
+            target = k;
+            leafy = a2 .0;
+            holds =
+                subst (λ (v : Outcome). Holds (v .bytes) (without i g)) (sym y)
+                (deleted-held b g h i (inside-tree t i k) p (a2 .0));
+          })
+
+      go : (k : Found) → foundIn b t ≡ k → Deleted b t g n
+      go (At i) k = found i k
+      go Nothing k = not-accepted Target b n (ap (λ (p : Outcome). p .answer) (sym (delete-absent b t sound-here k)) ∙ a)
+
+module _ (b : List ℕ) (f : Forest (Entry Name)) (h : Holds b f) where
+  here : Holds b (treeOf (linesOf b))
+  here = subst (Holds b) (sym (tree-held b f h)) h
+
+  pub insert-accepted : (w : Where) (t : ℕ) (m : Name) (n : ℕ) → insertOutcome b w t m .answer ≡ Accepted n → Inserted b w t m f n
+  insert-accepted w t m n a = subst (λ g. Inserted b w t m g n) (tree-held b f h) (insert-here b here w t m n a)
+
+  pub delete-accepted : (t n : ℕ) → deleteOutcome b t .answer ≡ Accepted n → Deleted b t f n
+  delete-accepted t n a = subst (λ g. Deleted b t g n) (tree-held b f h) (delete-here b here t n a)
+
+-- a refused edit leaves every byte
+keeps-insert : (b : List ℕ) (w : Where) (k : Found) (m : Name) → Keeps b (insertFound b w k m)
+keeps-insert b w Nothing m = λ r e. refl
+keeps-insert b w (At i) m =
+    keeps-unless (parented? w i) Root b _
+    (keeps-unless (fresh? (m .identity) (identities (linesOf b))) Identity b _
+    (keeps-unless (leb (levelAt (treeOf (linesOf b)) (spotOf w i (treeOf (linesOf b)))) deepest) Depth b _
+    (keeps-unless (room? b) Room b _
+    (keeps-unless (fits? (newEntry m (treeOf (linesOf b)) (spotOf w i (treeOf (linesOf b))))) CodeLength b _ (keeps-accepted b _ _)))))
+
+keeps-delete : (b : List ℕ) (k : Found) → Keeps b (deleteFound b k)
+keeps-delete b Nothing = λ r e. refl
+keeps-delete b (At i) =
+    keeps-unless (ltb 0 i) Root b _ (keeps-unless (leaf? i (treeOf (linesOf b))) Children b _ (keeps-accepted b _ _))
+
+pub apply-keeps : (b : List ℕ) (x : Edit) → Keeps b (applyOutcome b x)
+unfolding insertOutcome deleteOutcome
+apply-keeps b (Insert place identity tag) =
+    keeps-unless (registerSound? b) Register b _ (keeps-insert b _ (foundIn b _) (record { identity = identity; tag = tag }))
+apply-keeps b (Delete target) = keeps-unless (registerSound? b) Register b _ (keeps-delete b (foundIn b target))
