@@ -8,6 +8,7 @@ use native.Mathlib.Omega.{arith}
 use Rattle.answers.specs.declared.Answer.{Answer}
 use Rattle.answers.specs.declared.Answer.the-variants.{Accepted, Refused}
 use Rattle.answers.specs.declared.Refusal.{Refusal}
+use Rattle.answers.specs.Number.{numberOf}
 use Rattle.answers.specs.Outcome.{Outcome, accepted, unless}
 
 -- a refusal leaves every lent byte, and is answered where its test fails
@@ -19,6 +20,12 @@ pub unless-accepted : (t : Bool) (r : Refusal) (b : List ℕ) (o : Outcome) (n :
     → (t ≡ true) × (o .answer ≡ Accepted n)
 unless-accepted true r b o n e = (refl, e)
 unless-accepted false r b o n e = let z : _≡_ {A = ℕ} 0 1 = cc in absurd (omega arith)
+
+-- a refusal that is not the test's own comes from what is asked later
+pub unless-later : (t : Bool) (r s : Refusal) (b : List ℕ) (o : Outcome) → (numberOf r ≡ numberOf s → ⊥)
+    → unless t r b o .answer ≡ Refused s → o .answer ≡ Refused s
+unless-later true r s b o n e = e
+unless-later false r s b o n e = let z : r ≡ s = cc in absurd (n (ap numberOf z))
 
 -- an outcome that leaves every byte where it is a refusal
 abbrev pub Keeps : List ℕ → Outcome → Type 0

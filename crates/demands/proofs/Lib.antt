@@ -1,2 +1,4 @@
--- The worked examples.
+-- The worked examples, and the demands. Assumes nothing.
 pub mod Examples
+pub mod RightLaws
+pub mod RunLaws

@@ -1,2 +1,4 @@
--- The worked examples of 01 as a table.
+-- The worked examples; a run of edits; right answers. Assumes nothing.
 pub mod Worked
+pub mod Run
+pub mod Answers

@@ -147,6 +147,7 @@ pub record Inserted (b : List ℕ) (w : Where) (t : ℕ) (m : Name) (f : Forest 
   pub number : ℕ
   pub target : foundIn b t ≡ At number
   pub place : n ≡ length (ahead f (spotOf w number f))
+  pub level : levelAt f (spotOf w number f) < suc deepest
   pub holds : Holds (insertOutcome b w t m .bytes) (insertedEntry w number m f)
 
 -- an accepted deletion: its target's place is answered, and the buffer holds the tree without it
@@ -195,6 +196,7 @@ module _ (b : List ℕ) (h : Holds b (treeOf (linesOf b))) where
             number = i;
             target = k;
             place = answered (insertOutcome b w t m) n (length (ahead g q)) (insertedBytes b (length (ahead g q)) x) y a;
+            level = omega arith;
             holds =
                 subst (λ (p : Outcome). Holds (p .bytes) (insertedEntry w i m g)) (sym y)
                 (inserted-held b g h w i m (inside-tree t i k) (inner b sound-here w i (found-inside b t i k) (a1 .0))

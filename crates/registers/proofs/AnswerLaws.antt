@@ -7,17 +7,17 @@ use mathlib.Core.List.{List, [], _∷_, _++_, map}
 use Prim.Native.Nat.{ℕ, zero, suc, _+_, _≤_, _<_}
 use native.Mathlib.Omega.{arith}
 use lib.Dec.{eqb}
+use lib.IntN.{ℤ}
 use lib.ListN.{getD}
 use borrow.Author.Tests.{eqb-true, eqb-false}
 use Rattle.digits.specs.Lists.{All}
 use Rattle.digits.specs.Order.{Digits, Below, below?}
 use Rattle.digits.specs.Code.{Rising}
 use Rattle.digits.proofs.OrderLaws.{below-irrefl, below-trans, below-asym, below?-true, below?-false}
-use Rattle.answers.specs.Signed.{yesNo}
 use Rattle.codes.specs.Code.{fieldSize, IsCode}
 use Rattle.codes.specs.Reading.{read, sideOf}
-use Rattle.labels.specs.Label.{startAt, endAt, labelSize, fieldAt, labelOf}
-use Rattle.labels.specs.Questions.{above?, asked, aboveAnswer}
+use Rattle.labels.specs.Label.{startAt, endAt, parentAt, labelSize, fieldAt, Label, labelOf}
+use Rattle.labels.specs.Questions.{asked}
 use Rattle.labels.proofs.LabelLaws.{below?-holds}
 use Rattle.trees.specs.Lists.{Member}
 use Rattle.trees.specs.Forest.{Forest, nil, node, preorder, Rooted}
@@ -39,9 +39,10 @@ use Rattle.registers.specs.Entries.{codeAt}
 use Rattle.registers.specs.Sound.{labelBytes, soundLabel?, lineAt}
 use Rattle.registers.specs.Questions.{countOf, linesOf, registerSound?, foundFrom, foundIn, aboveEntry?, depthIn, treeOf}
 use Rattle.registers.proofs.SoundLaws.{label-field}
+use Rattle.registers.proofs.RowLaws.{line-start, line-end, line-parent}
 use Rattle.registers.proofs.TreeLaws.{tree-lined}
 use Rattle.registers.proofs.HoldsLaws.{lines-held}
-use Rattle.registers.proofs.QuestionLaws.{parts-of, labels-sound, above-is, at-is, nothing-at, found-from}
+use Rattle.registers.proofs.QuestionLaws.{parts-of, labels-sound, at-is, nothing-at, found-from}
 
 -- an entry is above another by the test exactly where it is its ancestor
 pub above-ancestor : (b : List ℕ) (f : Forest (Entry Name)) → Holds b f → (u v : Entry Name) → Has u f → Has v f
@@ -200,26 +201,31 @@ pub absent-held : (b : List ℕ) (f : Forest (Entry Name)) (x : ℕ) → Holds b
     → All (λ y. y ≢ x) (identities (preorder f))
 absent-held b f x h e = subst (λ us. All (λ y. y ≢ x) (identities us)) (lines-held b f h) (found-not (identities (linesOf b)) x 0 e)
 
--- the question on two labels of a sound register, "above", is the test on its two lines
+-- the questions on two labels of a sound register are asked of the codes of its two lines
+abbrev pub labelIn : Entry Name → Label
+labelIn u = record { start = u .start; end = u .end; parent = u .parent }
+
 label-code : (b : List ℕ) (i at : ℕ) → at + fieldSize ≤ labelSize
     → sideOf (read (fieldAt at (labelBytes b i))) ≡ codeAt b (entryPlace i + labelAt + at)
 label-code b i at h = ap (λ z. sideOf (read z)) (label-field b i at h)
 
-label-above : (b : List ℕ) (i j : ℕ) → soundLabel? b i ≡ true → soundLabel? b j ≡ true
-    → above? (labelOf (labelBytes b i)) (labelOf (labelBytes b j)) ≡ aboveEntry? (lineAt b i) (lineAt b j)
+label-line : (b : List ℕ) (i : ℕ) → soundLabel? b i ≡ true → labelOf (labelBytes b i) ≡ labelIn (lineAt b i)
 unfolding labelOf
-label-above b i j s t =
+label-line b i s =
     rw (
       label-code b i startAt (omega arith),
-      label-code b j startAt (omega arith),
       label-code b i endAt (omega arith),
-      label-code b j endAt (omega arith),
-    ) (sym (above-is b i j s t))
+      label-code b i parentAt (omega arith),
+      line-start b i s,
+      line-end b i s,
+      line-parent b i s,
+    ) refl
 
-pub above-label : (b : List ℕ) (i j : ℕ) → registerSound? b ≡ true → i < countOf b → j < countOf b
-    → aboveAnswer (labelBytes b i) (labelBytes b j) ≡ yesNo (aboveEntry? (lineAt b i) (lineAt b j))
+pub asked-lines : (b : List ℕ) (i j : ℕ) → registerSound? b ≡ true → i < countOf b → j < countOf b → (q : Label → Label → ℤ)
+    → asked (labelBytes b i) (labelBytes b j) (q (labelOf (labelBytes b i)) (labelOf (labelBytes b j)))
+    ≡ q (labelIn (lineAt b i)) (labelIn (lineAt b j))
 unfolding asked
-above-label b i j e h k =
+asked-lines b i j e h k q =
     let s = labels-sound b i e h in
     let t = labels-sound b j e k in
-    rw (s, t) (ap yesNo (label-above b i j s t))
+    rw (s, t, label-line b i s, label-line b j t) refl

@@ -14,11 +14,11 @@ use Rattle.codes.specs.Code.{IsCode}
 use Rattle.codes.specs.Field.{fieldOf}
 use Rattle.labels.specs.Label.{fieldAt}
 use Rattle.trees.specs.Labelled.{Name, Entry}
-use Rattle.registers.specs.Layout.{countAt, zeroAt, entrySize, entryPlace, startPlace, endPlace, parentPlace, HasPlace}
+use Rattle.registers.specs.Layout.{countAt, zeroAt, labelAt, entrySize, entryPlace, startPlace, endPlace, parentPlace, HasPlace}
 use Rattle.registers.specs.Entries.{entryBytes, entriesBytes, registerBytes, entryAt, codeAt}
-use Rattle.registers.specs.Sound.{soundLabel?, lineAt, linesFrom, HasEntries}
+use Rattle.registers.specs.Sound.{labelBytes, soundLabel?, lineAt, linesFrom, HasEntries}
 use Rattle.registers.proofs.SoundLaws.{sound-at, has-place}
-use Rattle.registers.proofs.RowLaws.{line-sound, line-blank, lines-length}
+use Rattle.registers.proofs.RowLaws.{line-sound, line-start, line-end, line-parent, line-blank, lines-length}
 
 -- every element is a byte
 abbrev pub Bytes : List ℕ → Type 0
@@ -66,6 +66,19 @@ entry-bytes b i y h t =
     let f : fieldOf (codeAt b (parentPlace i)) ≡ take 32 (drop (at + 72) b) =
     sym (s .parent-side .field) ∙ ap (λ (k : ℕ). fieldAt k b) r in
     same-five _ _ _ _ _ _ _ _ _ _ a c d e f ∙ sym (five-parts b at)
+
+-- the bytes of a label that is sound are the fields of its line
+pub label-parts : (b : List ℕ) (i : ℕ) → HasPlace b i → soundLabel? b i ≡ true
+    → labelBytes b i ≡ fieldOf (lineAt b i .start) ++ (fieldOf (lineAt b i .end) ++ fieldOf (lineAt b i .parent))
+label-parts b i h t =
+    let s = sound-at b i h t in
+    let at : ℕ = entryPlace i + labelAt in
+    let p : startPlace i ≡ at = omega arith in
+    let q : endPlace i ≡ at + 32 = omega arith in
+    let r : parentPlace i ≡ at + 32 + 32 = omega arith in
+    next-part b at 32 64
+    ∙ ap (λ (z : List ℕ). take 32 (drop at b) ++ z) (next-part b (at + 32) 32 32)
+    ∙ sym (rw (line-start b i t, line-end b i t, line-parent b i t, sym (s .start-side .field), sym (s .end-side .field), sym (s .parent-side .field), p, q, r) refl)
 
 -- a line that starts with a code has a sound label
 pub coded-sound : (b : List ℕ) (i : ℕ) → IsCode (lineAt b i .start) → soundLabel? b i ≡ true

@@ -1,13 +1,14 @@
 -- Laws of a forest with other entries, as the tree without its labels: sizes, levels, and the axes where no two entries become one.
 -- Assumes nothing.
-use mathlib.Core.Path.{_≡_, refl, ap}
-use mathlib.Core.Logic.{inl, inr, _↔_}
+use mathlib.Core.Path.{_≡_, refl, sym, ap, _∙_}
+use mathlib.Core.Logic.{inl, inr, _≢_, _↔_}
 use mathlib.Core.List.{List, [], _∷_, map}
-use Prim.Native.Nat.{ℕ, pred}
+use Prim.Native.Nat.{ℕ, zero, suc, pred}
+use Rattle.digits.specs.Lists.{Distinct}
 use Rattle.trees.specs.Lists.{Member, Earlier}
 use Rattle.trees.specs.Forest.{Forest, nil, node, size, preorder, Rooted, Height, image}
-use Rattle.trees.specs.Axes.{Has, OfRow, Parent, Ancestor, Sibling, Before}
-use Rattle.trees.proofs.ListLaws.{map-append}
+use Rattle.trees.specs.Axes.{Has, OfRow, Parent, Ancestor, Sibling, Before, Depth}
+use Rattle.trees.proofs.ListLaws.{all→, map-append}
 use Rattle.trees.proofs.ForestLaws.{member→has}
 
 module _ {A B : Type 0} (g : A → B) where
@@ -51,6 +52,10 @@ module _ {A B : Type 0} (g : A → B) where
   parent→image (node a c s) u v (inl (e, h)) = inl (ap g e, row-image c v h)
   parent→image (node a c s) u v (inr (inl h)) = inr (inl (parent→image c u v h))
   parent→image (node a c s) u v (inr (inr h)) = inr (inr (parent→image s u v h))
+
+  pub depth-image : (f : Forest A) (n : ℕ) (v : A) → Depth v n f → Depth (g v) n (image g f)
+  depth-image f zero v h = row-image f v h
+  depth-image f (suc n) v (u, h, k) = (g u, parent→image f u v h, depth-image f n u k)
 
   member-map : (xs : List A) (v : A) → Member v xs → Member (g v) (map g xs)
   member-map [] v h = h
@@ -120,6 +125,16 @@ module _ {A B : Type 0} (g : A → B) (D : A → Type 0) (one : (u v : A) → D 
   map-earlier [] d u v i j h = h
   map-earlier (x ∷ xs) d u v i j (inl (e, h)) = inl (one u x i (d x (inl refl)) e, map-member xs (λ w k. d w (inr k)) v j h)
   map-earlier (x ∷ xs) d u v i j (inr h) = inr (map-earlier xs (λ w k. d w (inr k)) u v i j h)
+
+-- where the images of a list are all different, two elements with one image are one
+pub map-one : {A B : Type 0} (g : A → B) (xs : List A) → Distinct (map g xs) → (u v : A) → Member u xs → Member v xs → g u ≡ g v → u ≡ v
+map-one g [] d u v h k e = absurd h
+map-one g (x ∷ xs) d u v (inl i) (inl j) e = i ∙ sym j
+map-one g (x ∷ xs) d u v (inl i) (inr k) e =
+    absurd (all→ (λ y. g x ≢ y) (map g xs) (d .0) (g v) (member-map g xs v k) (ap g (sym i) ∙ e))
+map-one g (x ∷ xs) d u v (inr h) (inl j) e =
+    absurd (all→ (λ y. g x ≢ y) (map g xs) (d .0) (g u) (member-map g xs u h) (ap g (sym j) ∙ sym e))
+map-one g (x ∷ xs) d u v (inr h) (inr k) e = map-one g xs (d .1) u v h k e
 
 -- a forest and its image have the same axes, if no two entries become one
 module _ {A B : Type 0} (g : A → B) (f : Forest A) (one : (u v : A) → Has u f → Has v f → g u ≡ g v → u ≡ v) where

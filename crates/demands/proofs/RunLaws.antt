@@ -1,0 +1,138 @@
+-- What a run of edits keeps: the buffer holds a sound labelled tree, its plain tree is the one that the accepted edits describe, and
+-- no code is longer than the first ones by more than the number of accepted insertions.
+-- Assumes nothing.
+use mathlib.Core.Path.{_≡_, refl, sym, ap, _∙_, subst}
+use mathlib.Core.Logic.{_⊎_, inl, inr, _≢_}
+use mathlib.Core.Bool.{Bool, true, false}
+use mathlib.Core.List.{List, [], _∷_, _++_, map}
+use Prim.Native.Nat.{ℕ, suc, _+_, _≤_, _<_}
+use native.Mathlib.Omega.{arith}
+use lib.Dec.{leb}
+use lib.ListN.{length}
+use borrow.Author.Tests.{leb-true}
+use Rattle.digits.specs.Code.{Within}
+use Rattle.answers.specs.declared.Answer.{Answer}
+use Rattle.answers.specs.declared.Answer.the-variants.{Accepted, Refused}
+use Rattle.answers.specs.declared.Refusal.{Refusal}
+use Rattle.answers.specs.declared.Refusal.the-variants.{Room}
+use Rattle.answers.proofs.OutcomeLaws.{unless-accepted}
+use Rattle.codes.specs.Field.{fieldOf}
+use Rattle.trees.specs.Lists.{Member}
+use Rattle.trees.specs.Forest.{Forest, size, preorder}
+use Rattle.trees.specs.Labelled.{Name, Entry, plain, codes, labelled, Sound}
+use Rattle.trees.specs.Edit.{Where, Spot, leaf, put, ahead, behind, spotOf, without}
+use Rattle.trees.specs.Neighbours.{newEntry, insertedEntry}
+use Rattle.trees.proofs.ListLaws.{member-left, member-right, member-append}
+use Rattle.trees.proofs.ForestLaws.{has→member, member→has}
+use Rattle.trees.proofs.ImageLaws.{size-image, preorder-image, map-one}
+use Rattle.trees.proofs.EditLaws.{order-spot, order-put, inserted-image, without-image, taken}
+use Rattle.trees.proofs.NeighbourLaws.{new-length, inserted-sound, sound-cut}
+use Rattle.registers.specs.declared.Found.{Found}
+use Rattle.registers.specs.declared.Found.the-variants.{At, Nothing}
+use Rattle.registers.specs.Layout.{deepest, entryPlace}
+use Rattle.registers.specs.Holds.{identities, Holds}
+use Rattle.registers.specs.Sound.{labelBytes, lineAt}
+use Rattle.registers.specs.Questions.{countOf, linesOf, foundFrom, foundIn}
+use Rattle.registers.proofs.SoundLaws.{has-place}
+use Rattle.registers.proofs.BytesLaws.{label-parts}
+use Rattle.registers.proofs.QuestionLaws.{sized→, sized-entries, parts-of, labels-sound, found-inside}
+use Rattle.registers.proofs.HoldsLaws.{lines-held, holds-sound}
+use Rattle.tables.specs.declared.Checked.{Checked}
+use Rattle.tables.specs.declared.Checked.the-variants.{Rows, Bad}
+use Rattle.tables.specs.Rules.{checkedOf}
+use Rattle.tables.specs.Labelling.{labelledTree, labelAs, labelOutcome}
+use Rattle.tables.proofs.HoldsLaws.{label-holds, label-plain}
+use Rattle.edits.specs.declared.Edit.{Edit}
+use Rattle.edits.specs.declared.Edit.the-variants.{Insert, Delete}
+use Rattle.edits.specs.declared.Place.{Place}
+use Rattle.edits.specs.Edits.{whereOf, targetOf, applyOutcome}
+use Rattle.edits.proofs.HoldsLaws.{count-size, Inserted, Deleted, insert-accepted, delete-accepted, apply-keeps}
+use Rattle.demands.specs.Run.{tableTree, numberIn, changedAt, changed, answered, run, treeAfter, insertion, insertions}
+use Rattle.demands.specs.Answers.{entry}
+use Rattle.demands.proofs.RightLaws.{count-tree, name-at, present}
+
+abbrev nameOf : Entry Name → Name
+nameOf u = u .name
+
+-- the buffer holds a labelled tree whose plain tree is t and whose codes have at most m digits
+pub record State (b : List ℕ) (t : Forest Name) (m : ℕ) : Type 0 where
+  pub tree : Forest (Entry Name)
+  pub holds : Holds b tree
+  pub named : plain tree ≡ t
+  pub bounded : Sound (Within 1 3 m) (suc deepest) [] [] [] tree
+
+twice : (us : List (Entry Name)) → map (λ (n : Name). n .identity) (map nameOf us) ≡ identities us
+twice [] = refl
+twice (u ∷ us) = ap (λ (l : List ℕ). u .name .identity ∷ l) (twice us)
+
+-- an identity has one number, in the buffer and in the plain tree
+number-found : (b : List ℕ) (f : Forest (Entry Name)) (x : ℕ) → Holds b f → numberIn x (plain f) ≡ foundIn b x
+number-found b f x h =
+    ap (λ (ns : List Name). foundFrom 0 x (map (λ (n : Name). n .identity) ns)) (preorder-image nameOf f)
+    ∙ ap (foundFrom 0 x) (twice (preorder f)) ∙ ap (λ us. foundFrom 0 x (identities us)) (sym (lines-held b f h))
+
+-- the labelled tree after an accepted edit: its plain tree is the plain edit's, and its codes are longer by a digit at most
+module _ (b : List ℕ) (f : Forest (Entry Name)) (h : Holds b f) (m : ℕ) (s : Sound (Within 1 3 m) (suc deepest) [] [] [] f) where
+  insert-state : (place : Place) (identity tag n : ℕ) → applyOutcome b (Insert place identity tag) .answer ≡ Accepted n
+      → State (applyOutcome b (Insert place identity tag) .bytes) (changed (Insert place identity tag) (plain f)) (suc m)
+  insert-state place identity tag n a =
+      let w = whereOf place in
+      let x : Name = record { identity = identity; tag = tag } in
+      let r = insert-accepted b f h w (targetOf place) x n a in
+      let i = r .number in
+      let q = spotOf w i f in
+      let k = number-found b f (targetOf place) h ∙ r .target in
+      let l = new-length m (suc deepest) f q s x in
+      record {
+        tree = insertedEntry w i x f;
+        holds = r .holds;
+        named =
+            inserted-image nameOf w i (newEntry x f q) f
+            ∙ ap (λ (z : Found). changedAt z (Insert place identity tag) (plain f)) (sym k);
+        bounded = inserted-sound m (suc deepest) f q s x (suc m) (omega arith) (r .level) (l .0) (l .1);
+      }
+
+  delete-state : (target n : ℕ) → applyOutcome b (Delete target) .answer ≡ Accepted n
+      → State (applyOutcome b (Delete target) .bytes) (changed (Delete target) (plain f)) m
+  delete-state target n a =
+      let r = delete-accepted b f h target n a in
+      let k = number-found b f target h ∙ r .target in
+      let t = taken f n (omega (arith, found-inside b target n (r .target), count-size b f h)) (r .leafy) in
+      record {
+        tree = without n f;
+        holds = r .holds;
+        named = without-image nameOf n f ∙ ap (λ (z : Found). changedAt z (Delete target) (plain f)) (sym k);
+        bounded =
+            subst (Sound (Within 1 3 m) (suc deepest) [] [] []) (sym (t .taken-out))
+            (sound-cut (Within 1 3 m) (suc deepest) (leaf (t .entry)) (t .rest) (t .spot)
+            (subst (Sound (Within 1 3 m) (suc deepest) [] [] []) (sym (t .put-back)) s));
+      }
+
+  accepted-state : (e : Edit) (n : ℕ) → applyOutcome b e .answer ≡ Accepted n
+      → State (applyOutcome b e .bytes) (changed e (plain f)) (insertion (Accepted n) e m)
+  accepted-state (Insert place identity tag) n a = insert-state place identity tag n a
+  accepted-state (Delete target) n a = delete-state target n a
+
+-- one edit, accepted or refused
+pub step-state : (b : List ℕ) (t : Forest Name) (m : ℕ) → State b t m → (e : Edit)
+    → State (applyOutcome b e .bytes) (answered (applyOutcome b e .answer) e t) (insertion (applyOutcome b e .answer) e m)
+step-state b t m s e = go (applyOutcome b e .answer) refl
+  where
+    go : (a : Answer) → applyOutcome b e .answer ≡ a → State (applyOutcome b e .bytes) (answered a e t) (insertion a e m)
+    go (Accepted n) k =
+        subst (λ (u : Forest Name). State (applyOutcome b e .bytes) (changed e u) (insertion (Accepted n) e m)) (s .named)
+        (accepted-state b (s .tree) (s .holds) m (s .bounded) e n k)
+    go (Refused r) k = subst (λ (c : List ℕ). State c t m) (sym (apply-keeps b e r k)) s
+
+-- any run
+insertion-add : (a : Answer) (e : Edit) (m k : ℕ) → insertion a e m + k ≡ m + insertion a e k
+insertion-add (Accepted n) (Insert place identity tag) m k = omega arith
+insertion-add (Accepted n) (Delete target) m k = refl
+insertion-add (Refused r) e m k = refl
+
+pub run-state : (es : List Edit) (b : List ℕ) (t : Forest Name) (m : ℕ) → State b t m
+    → State (run es b) (treeAfter es b t) (m + insertions es b)
+run-state [] b t m s = subst (State b t) (let z : m ≡ m + 0 = omega arith in z) s
+run-state (e ∷ es) b t m s =
+    subst (State _ _) (insertion-add (applyOutcome b e .answer) e m (insertions es (applyOutcome b e .bytes)))
+    (run-state es (applyOutcome b e .bytes) _ _ (step-state b t m s e))
