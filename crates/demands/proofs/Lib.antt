@@ -1,4 +1,6 @@
--- The worked examples, and the demands. Assumes nothing.
+-- The worked examples, and the demands with the laws behind them. Assumes nothing.
 pub mod Examples
 pub mod RightLaws
 pub mod RunLaws
+pub mod LengthLaws
+pub mod Demands

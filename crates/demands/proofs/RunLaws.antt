@@ -10,6 +10,7 @@ use native.Mathlib.Omega.{arith}
 use lib.Dec.{leb}
 use lib.ListN.{length}
 use borrow.Author.Tests.{leb-true}
+use Rattle.digits.specs.Lists.{Distinct}
 use Rattle.digits.specs.Code.{Within}
 use Rattle.answers.specs.declared.Answer.{Answer}
 use Rattle.answers.specs.declared.Answer.the-variants.{Accepted, Refused}
@@ -48,7 +49,7 @@ use Rattle.edits.specs.declared.Place.{Place}
 use Rattle.edits.specs.Edits.{whereOf, targetOf, applyOutcome}
 use Rattle.edits.proofs.HoldsLaws.{count-size, Inserted, Deleted, insert-accepted, delete-accepted, apply-keeps}
 use Rattle.demands.specs.Run.{tableTree, numberIn, changedAt, changed, answered, run, treeAfter, insertion, insertions}
-use Rattle.demands.specs.Answers.{entry}
+use Rattle.demands.specs.Demands.{LabelsStay}
 use Rattle.demands.proofs.RightLaws.{count-tree, name-at, present}
 
 abbrev nameOf : Entry Name → Name
@@ -71,7 +72,22 @@ number-found b f x h =
     ap (λ (ns : List Name). foundFrom 0 x (map (λ (n : Name). n .identity) ns)) (preorder-image nameOf f)
     ∙ ap (foundFrom 0 x) (twice (preorder f)) ∙ ap (λ us. foundFrom 0 x (identities us)) (sym (lines-held b f h))
 
--- the labelled tree after an accepted edit: its plain tree is the plain edit's, and its codes are longer by a digit at most
+-- the plain tree of the labelled tree after an edit is that of the plain edit
+module _ (b : List ℕ) (f : Forest (Entry Name)) (h : Holds b f) where
+  inserted-plain : (place : Place) (identity tag i : ℕ) → foundIn b (targetOf place) ≡ At i
+      → plain (insertedEntry (whereOf place) i (record { identity = identity; tag = tag }) f)
+      ≡ changed (Insert place identity tag) (plain f)
+  inserted-plain place identity tag i e =
+      let x : Name = record { identity = identity; tag = tag } in
+      inserted-image nameOf (whereOf place) i (newEntry x f (spotOf (whereOf place) i f)) f
+      ∙ ap (λ (z : Found). changedAt z (Insert place identity tag) (plain f)) (sym (number-found b f (targetOf place) h ∙ e))
+
+  deleted-plain : (target i : ℕ) → foundIn b target ≡ At i → plain (without i f) ≡ changed (Delete target) (plain f)
+  deleted-plain target i e =
+      without-image nameOf i f
+      ∙ ap (λ (z : Found). changedAt z (Delete target) (plain f)) (sym (number-found b f target h ∙ e))
+
+-- an accepted edit: the codes of an insertion are longer by a digit at most
 module _ (b : List ℕ) (f : Forest (Entry Name)) (h : Holds b f) (m : ℕ) (s : Sound (Within 1 3 m) (suc deepest) [] [] [] f) where
   insert-state : (place : Place) (identity tag n : ℕ) → applyOutcome b (Insert place identity tag) .answer ≡ Accepted n
       → State (applyOutcome b (Insert place identity tag) .bytes) (changed (Insert place identity tag) (plain f)) (suc m)
@@ -81,14 +97,11 @@ module _ (b : List ℕ) (f : Forest (Entry Name)) (h : Holds b f) (m : ℕ) (s :
       let r = insert-accepted b f h w (targetOf place) x n a in
       let i = r .number in
       let q = spotOf w i f in
-      let k = number-found b f (targetOf place) h ∙ r .target in
       let l = new-length m (suc deepest) f q s x in
       record {
         tree = insertedEntry w i x f;
         holds = r .holds;
-        named =
-            inserted-image nameOf w i (newEntry x f q) f
-            ∙ ap (λ (z : Found). changedAt z (Insert place identity tag) (plain f)) (sym k);
+        named = inserted-plain b f h place identity tag i (r .target);
         bounded = inserted-sound m (suc deepest) f q s x (suc m) (omega arith) (r .level) (l .0) (l .1);
       }
 
@@ -96,12 +109,11 @@ module _ (b : List ℕ) (f : Forest (Entry Name)) (h : Holds b f) (m : ℕ) (s :
       → State (applyOutcome b (Delete target) .bytes) (changed (Delete target) (plain f)) m
   delete-state target n a =
       let r = delete-accepted b f h target n a in
-      let k = number-found b f target h ∙ r .target in
       let t = taken f n (omega (arith, found-inside b target n (r .target), count-size b f h)) (r .leafy) in
       record {
         tree = without n f;
         holds = r .holds;
-        named = without-image nameOf n f ∙ ap (λ (z : Found). changedAt z (Delete target) (plain f)) (sym k);
+        named = deleted-plain b f h target n (r .target);
         bounded =
             subst (Sound (Within 1 3 m) (suc deepest) [] [] []) (sym (t .taken-out))
             (sound-cut (Within 1 3 m) (suc deepest) (leaf (t .entry)) (t .rest) (t .spot)
@@ -136,3 +148,82 @@ run-state [] b t m s = subst (State b t) (let z : m ≡ m + 0 = omega arith in z
 run-state (e ∷ es) b t m s =
     subst (State _ _) (insertion-add (applyOutcome b e .answer) e m (insertions es (applyOutcome b e .bytes)))
     (run-state es (applyOutcome b e .bytes) _ _ (step-state b t m s e))
+
+-- two buffers with one line have one label
+same-label : (b c : List ℕ) (f g : Forest (Entry Name)) (h : Holds b f) (k : Holds c g) (i j : ℕ) → i < size (plain f) → j < size (plain g)
+    → lineAt b i ≡ lineAt c j → labelBytes b i ≡ labelBytes c j
+same-label b c f g h k i j p q e =
+    parts b f h i p
+    ∙ ap (λ (u : Entry Name). fieldOf (u .start) ++ (fieldOf (u .end) ++ fieldOf (u .parent))) e ∙ sym (parts c g k j q)
+  where
+    parts : (d : List ℕ) (t : Forest (Entry Name)) → Holds d t → (n : ℕ) → n < size (plain t)
+        → labelBytes d n ≡ fieldOf (lineAt d n .start) ++ (fieldOf (lineAt d n .end) ++ fieldOf (lineAt d n .parent))
+    parts d t y n l =
+        let s = holds-sound d t y in
+        let z : n < countOf d = omega (arith, count-tree d t y) in
+        label-parts d n (has-place d (countOf d) n (sized-entries d (sized→ d (parts-of d s .sized))) z) (labels-sound d n s z)
+
+-- all entries of one tree are entries of the other
+abbrev Under : Forest (Entry Name) → Forest (Entry Name) → Type 0
+Under f g = (u : Entry Name) → Member u (preorder f) → Member u (preorder g)
+
+one-entry : (f : Forest (Entry Name)) → Distinct (identities (preorder f)) → (u v : Entry Name) → Member u (preorder f) → Member v (preorder f)
+    → u .name .identity ≡ v .name .identity → u ≡ v
+one-entry f d u v h k e = map-one (λ (w : Entry Name). w .name .identity) (preorder f) d u v h k e
+
+labels-stay : (b c : List ℕ) (f g : Forest (Entry Name)) → Holds b f → Holds c g → Under f g ⊎ Under g f
+    → LabelsStay b (plain f) c (plain g)
+labels-stay b c f g h k r i j p q e = same-label b c f g h k i j p q (go r)
+  where
+    u : Member (lineAt b i) (preorder f)
+    u = has→member f (lineAt b i) (present b f h i p)
+
+    v : Member (lineAt c j) (preorder g)
+    v = has→member g (lineAt c j) (present c g k j q)
+
+    same : lineAt b i .name .identity ≡ lineAt c j .name .identity
+    same = ap (λ (n : Name). n .identity) (sym (name-at b f h i p)) ∙ e ∙ ap (λ (n : Name). n .identity) (name-at c g k j q)
+
+    go : Under f g ⊎ Under g f → lineAt b i ≡ lineAt c j
+    go (inl n) = one-entry g (k .whole .distinct) (lineAt b i) (lineAt c j) (n (lineAt b i) u) v same
+    go (inr n) = one-entry f (h .whole .distinct) (lineAt b i) (lineAt c j) u (n (lineAt c j) v) same
+
+-- a row put in leaves all entries there
+put-under : (g f : Forest (Entry Name)) (q : Spot f) → Under f (put g f q)
+put-under g f q u m =
+    subst (Member u) (sym (order-put g f q)) (go (member-append (ahead f q) (behind f q) u (subst (Member u) (order-spot f q) m)))
+  where
+    go : Member u (ahead f q) ⊎ Member u (behind f q) → Member u (ahead f q ++ (preorder g ++ behind f q))
+    go (inl k) = member-left (ahead f q) (preorder g ++ behind f q) u k
+    go (inr k) = member-right (ahead f q) (preorder g ++ behind f q) u (member-right (preorder g) (behind f q) u k)
+
+-- demand 2: a present entry's label never changes
+module _ (b : List ℕ) (f : Forest (Entry Name)) (h : Holds b f) where
+  accepted-stay : (e : Edit) (n : ℕ) → applyOutcome b e .answer ≡ Accepted n
+      → LabelsStay b (plain f) (applyOutcome b e .bytes) (changed e (plain f))
+  accepted-stay (Insert place identity tag) n a =
+      let w = whereOf place in
+      let x : Name = record { identity = identity; tag = tag } in
+      let r = insert-accepted b f h w (targetOf place) x n a in
+      let q = spotOf w (r .number) f in
+      subst (LabelsStay b (plain f) (applyOutcome b (Insert place identity tag) .bytes)) (inserted-plain b f h place identity tag (r .number) (r .target))
+      (labels-stay b _ f (insertedEntry w (r .number) x f) h (r .holds) (inl (put-under (leaf (newEntry x f q)) f q)))
+  accepted-stay (Delete target) n a =
+      let r = delete-accepted b f h target n a in
+      let t = taken f n (omega (arith, found-inside b target n (r .target), count-size b f h)) (r .leafy) in
+      subst (LabelsStay b (plain f) (applyOutcome b (Delete target) .bytes)) (deleted-plain b f h target n (r .target))
+      (labels-stay b _ f (without n f) h (r .holds)
+      (inr (subst (λ g. Under g f) (sym (t .taken-out)) (subst (Under (t .rest)) (t .put-back) (put-under (leaf (t .entry)) (t .rest) (t .spot))))))
+
+pub step-stay : (b : List ℕ) (t : Forest Name) (m : ℕ) → State b t m → (e : Edit)
+    → LabelsStay b t (applyOutcome b e .bytes) (answered (applyOutcome b e .answer) e t)
+step-stay b t m s e = go (applyOutcome b e .answer) refl
+  where
+    go : (a : Answer) → applyOutcome b e .answer ≡ a → LabelsStay b t (applyOutcome b e .bytes) (answered a e t)
+    go (Accepted n) k =
+        subst (λ (u : Forest Name). LabelsStay b u (applyOutcome b e .bytes) (changed e u)) (s .named)
+        (accepted-stay b (s .tree) (s .holds) e n k)
+    go (Refused r) k =
+        subst (λ (c : List ℕ). LabelsStay b t c t) (sym (apply-keeps b e r k))
+        (subst (λ (u : Forest Name). LabelsStay b u b u) (s .named)
+        (labels-stay b b (s .tree) (s .tree) (s .holds) (s .holds) (inl (λ u n. n))))

@@ -1,4 +1,5 @@
--- The worked examples; a run of edits; right answers. Assumes nothing.
+-- The worked examples; a run of edits; right answers; the demands. Assumes nothing.
 pub mod Worked
 pub mod Run
 pub mod Answers
+pub mod Demands

@@ -145,7 +145,7 @@ head-least r (x ∷ xs) h = (inl refl, all-map (Below x) (λ y. (x ≡ y) ⊎ Be
 
 module _ {A : Type 0} where
   -- what holds of the codes along the tour holds of each entry's
-  both-all : (P : Digits → Type 0) (f : Forest (Entry A)) → All P (codes f) → All (λ u. P (u .start) × P (u .end)) (preorder f)
+  pub both-all : (P : Digits → Type 0) (f : Forest (Entry A)) → All P (codes f) → All (λ u. P (u .start) × P (u .end)) (preorder f)
   both-all P nil h = tt
   both-all P (node u c s) h =
       let q = all-part P (codes c) (codes s) (u .end) (h .1) in
