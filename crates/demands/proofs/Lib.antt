@@ -4,3 +4,5 @@ pub mod RightLaws
 pub mod RunLaws
 pub mod LengthLaws
 pub mod Demands
+pub mod Instance
+pub mod OneAnswer

@@ -3,3 +3,4 @@ pub mod Worked
 pub mod Run
 pub mod Answers
 pub mod Demands
+pub mod OneAnswer

@@ -1,7 +1,8 @@
-// What the programs print: the lines of a register, the line of a refusal.
+// What the programs print: the lines of a register, the line of a refusal, a call's answer.
 ghost use Prim.Native.Nat.{_+_, _≤_};
 ghost use lib.ListN.{length};
 ghost use Rattle.registers.specs.Layout.{entryPlace, entrySize};
+use answers::Answer;
 use answers::Refusal;
 use libc::STDOUT_FILENO;
 use texts::LINE;
@@ -22,21 +23,36 @@ fn line(register: &[u8], i: usize)
 {
     let mut out = [0u8; LINE];
     let n = texts::line(register, i, &mut out);
-    print(&out[..n]);
+    text(&out[..n]);
 }
 
 // Prints the line of a refusal.
 pub fn refused(refusal: Refusal) {
     let mut out = [0u8; LINE];
     let n = texts::refused(refusal, &mut out);
-    print(&out[..n]);
+    text(&out[..n]);
 }
 
 // Prints that what was read is no text of a table and no register of a size that is taken.
 pub fn unreadable() {
-    print(b"unreadable\n");
+    text(b"unreadable\n");
 }
 
-fn print(text: &[u8]) {
-    io::write_all(STDOUT_FILENO, text);
+// Prints a call's answer: its number, or `refused` and the paper's number.
+pub fn answered(answer: Answer) {
+    match answer {
+        Answer::Accepted(n) => {
+            text(b" ");
+            io::print_decimal(STDOUT_FILENO, n as u64);
+        }
+        Answer::Refused(refusal) => {
+            text(b" refused ");
+            io::print_decimal(STDOUT_FILENO, refusal.number() as u64);
+        }
+    }
+    text(b";");
+}
+
+pub fn text(bytes: &[u8]) {
+    io::write_all(STDOUT_FILENO, bytes);
 }

@@ -5,6 +5,8 @@ ghost use lib.ListN.{length};
 use answers::Answer;
 use codes::Code;
 use libc::STDOUT_FILENO;
+use printer::answered;
+use printer::text;
 
 // What a lent buffer holds before a call: 5a.
 const FILL: u8 = 90;
@@ -429,25 +431,6 @@ fn asked(name: &[u8], register: &[u8]) {
     answered(registers::place(register, 13));
     answered(registers::place(register, 99));
     newline();
-}
-
-fn text(bytes: &[u8]) {
-    io::write_all(STDOUT_FILENO, bytes);
-}
-
-// A call's answer: its number, or `refused` and the paper's number.
-fn answered(answer: Answer) {
-    match answer {
-        Answer::Accepted(n) => {
-            text(b" ");
-            io::print_decimal(STDOUT_FILENO, n as u64);
-        }
-        Answer::Refused(refusal) => {
-            text(b" refused ");
-            io::print_decimal(STDOUT_FILENO, refusal.number() as u64);
-        }
-    }
-    text(b";");
 }
 
 fn wide(byte: u8) -> u64 {

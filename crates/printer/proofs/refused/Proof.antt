@@ -15,11 +15,11 @@ refused-requires c κs = search needs
 array-share-prefix-out : tie.Need-array-share-prefix-out
 array-share-prefix-out c = search needs
 
-slice-aggregate-print : tie.Need-slice-aggregate-print
-slice-aggregate-print c = sym (length-take-le _ _ (omega arith))
+slice-aggregate-text : tie.Need-slice-aggregate-text
+slice-aggregate-text c = sym (length-take-le _ _ (omega arith))
 
-print-requires : tie.Need-print-requires
-print-requires c κs = search needs
+text-requires : tie.Need-text-requires
+text-requires c κs = search needs
 
 returns : tie.Need-returns
 returns c = search needs
@@ -31,6 +31,6 @@ refused-spec =
     slice-aggregate-refused
     refused-requires
     array-share-prefix-out
-    slice-aggregate-print
-    print-requires
+    slice-aggregate-text
+    text-requires
     returns)
