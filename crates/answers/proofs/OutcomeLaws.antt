@@ -1,4 +1,4 @@
--- Laws of outcomes: what a call has to show of its answer and of the lent bytes, and that only one outcome is right.
+-- Laws of outcomes: what a call has to show of its answer and of the lent bytes, what is accepted, and what a refusal keeps.
 -- Assumes nothing.
 use mathlib.Core.Path.{_≡_, refl, sym, ap, _∙_}
 use mathlib.Core.Bool.{Bool, true, false}
@@ -42,8 +42,3 @@ keeps-accepted b c n r e = let z : _≡_ {A = ℕ} 0 1 = cc in absurd (omega ari
 pub gives : (o : Outcome) (a b : Answer) (x y : List ℕ) → o ≡ record { answer = a; bytes = x } → b ≡ a → y ≡ x
     → (b ≡ o .answer) × (y ≡ o .bytes)
 gives o a b x y e h k = (h ∙ sym (ap (λ (p : Outcome). p .answer) e), k ∙ sym (ap (λ (p : Outcome). p .bytes) e))
-
--- two answers with their bytes that meet one contract are the same
-pub one-outcome : (o : Outcome) (a b : Answer) (c d : List ℕ) → (a ≡ o .answer) × (c ≡ o .bytes) → (b ≡ o .answer) × (d ≡ o .bytes)
-    → (a ≡ b) × (c ≡ d)
-one-outcome o a b c d p q = (p .0 ∙ sym (q .0), p .1 ∙ sym (q .1))

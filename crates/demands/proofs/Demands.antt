@@ -1,21 +1,19 @@
 -- The three demands hold: for every accepted table, every lent buffer and every run of edits. Each statement is in specs/Demands.
 -- Assumes nothing.
 use mathlib.Core.Path.{_≡_, refl, sym, ap, _∙_, subst}
-use mathlib.Core.Bool.{Bool, true, false}
-use mathlib.Core.List.{List, [], _∷_}
-use Prim.Native.Nat.{ℕ, suc, _+_, _*_, _≤_, _<_}
+use mathlib.Core.List.{List, []}
+use Prim.Native.Nat.{ℕ, suc, _+_, _*_, _≤_}
 use native.Mathlib.Omega.{arith}
 use lib.Dec.{leb}
 use lib.ListN.{length, take}
 use borrow.Author.Tests.{leb-true}
-use Rattle.digits.specs.Lists.{All, Distinct}
+use Rattle.digits.specs.Lists.{All}
 use Rattle.digits.specs.Order.{Digits}
 use Rattle.digits.specs.Code.{Within, Enough}
 use Rattle.digits.proofs.ListLaws.{all-map}
 use Rattle.digits.proofs.CountLaws.{no-better}
 use Rattle.answers.specs.declared.Answer.the-variants.{Accepted}
-use Rattle.answers.specs.declared.Refusal.{Refusal}
-use Rattle.answers.specs.declared.Refusal.the-variants.{Room, CodeLength, NoCode, Order}
+use Rattle.answers.specs.declared.Refusal.the-variants.{Room, CodeLength, NoCode}
 use Rattle.answers.specs.Outcome.{Outcome, accepted}
 use Rattle.answers.proofs.OutcomeLaws.{unless-accepted, Keeps, keeps-unless, keeps-accepted}
 use Rattle.numbers.specs.Bytes.{put}
@@ -24,18 +22,18 @@ use Rattle.codes.specs.declared.Sides.{Sides}
 use Rattle.codes.specs.declared.Sides.the-variants.{Ordered, NoSide, Disordered}
 use Rattle.codes.specs.Code.{longest, fieldSize, code?}
 use Rattle.codes.specs.Field.{fieldOf}
-use Rattle.codes.specs.Reading.{Reading, code, empty, unsound, read, sideOf}
+use Rattle.codes.specs.Reading.{Reading, code, empty, unsound, read}
 use Rattle.codes.specs.Calls.{packOutcome, unpackAs, unpackOutcome, sidesOf, betweenAs, betweenOutcome}
 use Rattle.codes.proofs.TestLaws.{code?-true}
 use Rattle.codes.proofs.FieldLaws.{field-length}
 use Rattle.codes.proofs.ReadingLaws.{read-field}
 use Rattle.codes.proofs.CallLaws.{pack-written, unpack-written}
-use Rattle.trees.specs.Forest.{Forest, size, preorder}
-use Rattle.trees.specs.Labelled.{Name, Entry, plain, codes, labelled, Sound}
+use Rattle.trees.specs.Forest.{size}
+use Rattle.trees.specs.Labelled.{Name, Entry, codes, labelled, Sound}
 use Rattle.trees.proofs.LabelledLaws.{codes-labelled, plain-labelled, within-labelled}
 use Rattle.trees.proofs.SearchLaws.{both-all}
 use Rattle.registers.specs.Layout.{deepest, entryPlace}
-use Rattle.registers.specs.Questions.{countOf, linesOf, treeOf}
+use Rattle.registers.specs.Questions.{countOf}
 use Rattle.registers.proofs.HoldsLaws.{lines-held, holds-sound}
 use Rattle.registers.proofs.AnswerLaws.{tree-held}
 use Rattle.tables.specs.declared.Checked.{Checked}

@@ -14,7 +14,7 @@ use Rattle.codes.specs.Field.{fieldOf}
 use Rattle.codes.specs.Reading.{read}
 use Rattle.labels.specs.Label.{labelOf, sound?}
 use Rattle.labels.specs.Questions.{asked, aboveAnswer}
-use Rattle.trees.specs.Forest.{Forest, nil, node}
+use Rattle.trees.specs.Forest.{nil, node}
 use Rattle.trees.specs.Labelled.{Name}
 use Rattle.trees.specs.Edit.{leaf}
 use Rattle.trees.specs.Check.{walkRow}

@@ -1,13 +1,10 @@
 -- Refusal 8 is never given while the longest code of a register is below the limit.
 -- Assumes nothing.
-use mathlib.Core.Path.{_≡_, refl, sym, ap, _∙_, subst}
-use mathlib.Core.Bool.{Bool, true}
+use mathlib.Core.Path.{_≡_, refl, sym, ap, _∙_}
 use mathlib.Core.List.{List, []}
-use Prim.Native.Nat.{ℕ, suc, _≤_, _<_}
+use Prim.Native.Nat.{ℕ, suc, _<_}
 use native.Mathlib.Omega.{arith}
 use lib.Dec.{leb, ltb}
-use lib.ListN.{length}
-use borrow.Author.Tests.{le-leb}
 use Rattle.digits.specs.Code.{Within}
 use Rattle.answers.specs.declared.Answer.the-variants.{Accepted, Refused}
 use Rattle.answers.specs.declared.Refusal.{Refusal}
@@ -20,7 +17,6 @@ use Rattle.identities.specs.Rows.{fresh?}
 use Rattle.trees.specs.Forest.{Forest}
 use Rattle.trees.specs.Labelled.{Name, Entry, Sound}
 use Rattle.trees.specs.Edit.{Where, Spot, levelAt, spotOf, leaf?}
-use Rattle.trees.specs.Neighbours.{newEntry}
 use Rattle.trees.proofs.NeighbourLaws.{new-length}
 use Rattle.registers.specs.declared.Found.{Found}
 use Rattle.registers.specs.declared.Found.the-variants.{At, Nothing}

@@ -1,28 +1,26 @@
 -- A register that holds a tree answers rightly: order, above, parent, sibling, distance, place and depth are those of the plain tree.
 -- Assumes nothing.
 use mathlib.Core.Path.{_≡_, refl, sym, ap, _∙_, subst}
-use mathlib.Core.Logic.{_⊎_, inl, inr, _≢_, _↔_}
-use mathlib.Core.Bool.{Bool, true, false, not, _&&_, cond, and-eq-true-iff, false≢true}
-use mathlib.Core.List.{List, [], _∷_, map}
+use mathlib.Core.Logic.{inl, inr, _≢_}
+use mathlib.Core.Bool.{Bool, true, false, not, _&&_, and-eq-true-iff, false≢true}
+use mathlib.Core.List.{List, [], _∷_}
 use Prim.Native.Nat.{ℕ, zero, suc, _+_, _<_}
 use native.Mathlib.Omega.{arith}
 use lib.Dec.{eqb}
-use lib.IntN.{ℤ, pos, negsuc, _-ℤ_}
+use lib.IntN.{ℤ}
 use lib.ListN.{length, getD, List·getD-map}
-use borrow.Author.Tests.{eqb-true, eq-eqb, ne-eqb, not-true}
-use Rattle.digits.specs.Lists.{All, Distinct}
-use Rattle.digits.specs.Order.{Digits, Below}
+use borrow.Author.Tests.{eq-eqb, ne-eqb}
+use Rattle.digits.specs.Lists.{Distinct}
+use Rattle.digits.specs.Order.{Digits}
 use Rattle.digits.proofs.ListLaws.{all-at}
-use Rattle.answers.specs.declared.Answer.the-variants.{Accepted}
 use Rattle.answers.specs.Signed.{yesNo}
 use Rattle.codes.specs.Reading.{same?}
 use Rattle.codes.proofs.ReadingLaws.{same?-true, same?-refl}
-use Rattle.labels.specs.Label.{Label}
-use Rattle.labels.specs.Questions.{orderBy, order, above?, orphan?, parent?, sibling?, orderAnswer, aboveAnswer, parentAnswer, siblingAnswer}
+use Rattle.labels.specs.Questions.{orderBy, order, above?, parent?, sibling?, orderAnswer, aboveAnswer, parentAnswer, siblingAnswer}
 use Rattle.labels.proofs.RelationLaws.{Ordered, before, same, behind, ordered, above→, →above}
 use Rattle.trees.specs.Lists.{Member}
-use Rattle.trees.specs.Forest.{Forest, size, preorder, image}
-use Rattle.trees.specs.Axes.{Has, Parent, Ancestor, Sibling, Before, Depth}
+use Rattle.trees.specs.Forest.{Forest, size, preorder}
+use Rattle.trees.specs.Axes.{Has, Parent, Ancestor, Sibling, Before}
 use Rattle.trees.specs.Questions.{ParentCodes, SiblingCodes}
 use Rattle.trees.specs.Labelled.{Name, Entry, starts, ends, parents, plain}
 use Rattle.trees.proofs.ForestLaws.{length-preorder, member→has, has→member}
@@ -31,12 +29,12 @@ use Rattle.trees.proofs.KinLaws.{order-codes, above-codes, parent-codes, siblin
 use Rattle.registers.specs.declared.Found.the-variants.{At}
 use Rattle.registers.specs.Holds.{identities, Holds}
 use Rattle.registers.specs.Sound.{labelBytes, lineAt}
-use Rattle.registers.specs.Questions.{countOf, linesOf, registerSound?, foundFrom, foundIn, depthIn, placeAs, placeAnswer, depthAs, depthAnswer, distanceAs, distanceAnswer}
+use Rattle.registers.specs.Questions.{countOf, linesOf, registerSound?, foundFrom, foundIn, depthIn}
 use Rattle.registers.proofs.RowLaws.{lines-length}
 use Rattle.registers.proofs.QuestionLaws.{line-at, place-found, depth-found, distance-found}
 use Rattle.registers.proofs.HoldsLaws.{lines-held, holds-sound}
 use Rattle.registers.proofs.AnswerLaws.{labelIn, asked-lines, depth-held}
-use Rattle.demands.specs.Answers.{Says, rightly-yes, rightly-no, SaysOrder, minus-one, zero-one, plus-one, entry, Right, AllRight}
+use Rattle.demands.specs.Answers.{Says, rightly-yes, rightly-no, SaysOrder, minus-one, zero-one, plus-one, entry, AllRight}
 
 -- a test that holds exactly where P does answers rightly
 says : (P : Type 0) (t : Bool) → (t ≡ true → P) → (P → t ≡ true) → Says P (yesNo t)

@@ -2,53 +2,41 @@
 -- no code is longer than the first ones by more than the number of accepted insertions.
 -- Assumes nothing.
 use mathlib.Core.Path.{_≡_, refl, sym, ap, _∙_, subst}
-use mathlib.Core.Logic.{_⊎_, inl, inr, _≢_}
-use mathlib.Core.Bool.{Bool, true, false}
+use mathlib.Core.Logic.{_⊎_, inl, inr}
 use mathlib.Core.List.{List, [], _∷_, _++_, map}
-use Prim.Native.Nat.{ℕ, suc, _+_, _≤_, _<_}
+use Prim.Native.Nat.{ℕ, suc, _+_, _<_}
 use native.Mathlib.Omega.{arith}
-use lib.Dec.{leb}
-use lib.ListN.{length}
-use borrow.Author.Tests.{leb-true}
 use Rattle.digits.specs.Lists.{Distinct}
 use Rattle.digits.specs.Code.{Within}
 use Rattle.answers.specs.declared.Answer.{Answer}
 use Rattle.answers.specs.declared.Answer.the-variants.{Accepted, Refused}
-use Rattle.answers.specs.declared.Refusal.{Refusal}
-use Rattle.answers.specs.declared.Refusal.the-variants.{Room}
-use Rattle.answers.proofs.OutcomeLaws.{unless-accepted}
 use Rattle.codes.specs.Field.{fieldOf}
 use Rattle.trees.specs.Lists.{Member}
 use Rattle.trees.specs.Forest.{Forest, size, preorder}
 use Rattle.trees.specs.Labelled.{Name, Entry, plain, codes, labelled, Sound}
-use Rattle.trees.specs.Edit.{Where, Spot, leaf, put, ahead, behind, spotOf, without}
+use Rattle.trees.specs.Edit.{Spot, leaf, put, ahead, behind, spotOf, without}
 use Rattle.trees.specs.Neighbours.{newEntry, insertedEntry}
 use Rattle.trees.proofs.ListLaws.{member-left, member-right, member-append}
-use Rattle.trees.proofs.ForestLaws.{has→member, member→has}
-use Rattle.trees.proofs.ImageLaws.{size-image, preorder-image, map-one}
+use Rattle.trees.proofs.ForestLaws.{has→member}
+use Rattle.trees.proofs.ImageLaws.{preorder-image, map-one}
 use Rattle.trees.proofs.EditLaws.{order-spot, order-put, inserted-image, without-image, taken}
 use Rattle.trees.proofs.NeighbourLaws.{new-length, inserted-sound, sound-cut}
 use Rattle.registers.specs.declared.Found.{Found}
-use Rattle.registers.specs.declared.Found.the-variants.{At, Nothing}
-use Rattle.registers.specs.Layout.{deepest, entryPlace}
+use Rattle.registers.specs.declared.Found.the-variants.{At}
+use Rattle.registers.specs.Layout.{deepest}
 use Rattle.registers.specs.Holds.{identities, Holds}
 use Rattle.registers.specs.Sound.{labelBytes, lineAt}
-use Rattle.registers.specs.Questions.{countOf, linesOf, foundFrom, foundIn}
+use Rattle.registers.specs.Questions.{countOf, foundFrom, foundIn}
 use Rattle.registers.proofs.SoundLaws.{has-place}
 use Rattle.registers.proofs.BytesLaws.{label-parts}
 use Rattle.registers.proofs.QuestionLaws.{sized→, sized-entries, parts-of, labels-sound, found-inside}
 use Rattle.registers.proofs.HoldsLaws.{lines-held, holds-sound}
-use Rattle.tables.specs.declared.Checked.{Checked}
-use Rattle.tables.specs.declared.Checked.the-variants.{Rows, Bad}
-use Rattle.tables.specs.Rules.{checkedOf}
-use Rattle.tables.specs.Labelling.{labelledTree, labelAs, labelOutcome}
-use Rattle.tables.proofs.HoldsLaws.{label-holds, label-plain}
 use Rattle.edits.specs.declared.Edit.{Edit}
 use Rattle.edits.specs.declared.Edit.the-variants.{Insert, Delete}
 use Rattle.edits.specs.declared.Place.{Place}
 use Rattle.edits.specs.Edits.{whereOf, targetOf, applyOutcome}
-use Rattle.edits.proofs.HoldsLaws.{count-size, Inserted, Deleted, insert-accepted, delete-accepted, apply-keeps}
-use Rattle.demands.specs.Run.{tableTree, numberIn, changedAt, changed, answered, run, treeAfter, insertion, insertions}
+use Rattle.edits.proofs.HoldsLaws.{count-size, insert-accepted, delete-accepted, apply-keeps}
+use Rattle.demands.specs.Run.{numberIn, changedAt, changed, answered, run, treeAfter, insertion, insertions}
 use Rattle.demands.specs.Demands.{LabelsStay}
 use Rattle.demands.proofs.RightLaws.{count-tree, name-at, present}
 

@@ -3,7 +3,6 @@
 use mathlib.Core.Path.{_≡_}
 use mathlib.Core.List.{List}
 use Prim.Native.Nat.{ℕ}
-use lib.IntN.{ℤ}
 use Rattle.answers.specs.declared.Answer.{Answer}
 use Rattle.answers.specs.Outcome.{Outcome}
 use Rattle.answers.specs.Signed.{signedOf, signedRowOf}
@@ -11,7 +10,6 @@ use Rattle.codes.specs.Calls.{packOutcome, unpackOutcome, betweenOutcome}
 use Rattle.labels.specs.Questions.{orderAnswer, aboveAnswer, parentAnswer, siblingAnswer}
 use Rattle.registers.specs.Questions.{placeAnswer, depthAnswer, distanceAnswer}
 use Rattle.tables.specs.Labelling.{labelOutcome}
-use Rattle.edits.specs.declared.Place.{Place}
 use Rattle.edits.specs.declared.Place.the-variants.{FirstChildOf, LastChildOf, Before, After}
 use Rattle.edits.specs.declared.Edit.{Edit}
 use Rattle.edits.specs.declared.Edit.the-variants.{Insert, Delete}

@@ -2,8 +2,8 @@
 -- no byte changed. Assumes nothing.
 use mathlib.Core.Path.{_≡_, refl, sym, ap, _∙_, subst}
 use mathlib.Core.Logic.{_≢_}
-use mathlib.Core.Bool.{Bool, true, and-eq-true-iff}
-use mathlib.Core.List.{List, [], _∷_, _++_, map}
+use mathlib.Core.Bool.{true, and-eq-true-iff}
+use mathlib.Core.List.{List, [], _∷_, _++_}
 use Prim.Native.Nat.{ℕ, suc, _+_, _≤_, _<_}
 use native.Mathlib.Omega.{arith}
 use lib.Dec.{leb, ltb}
@@ -11,8 +11,7 @@ use lib.ListN.{length, take}
 use borrow.Author.Tests.{leb-true, ltb-true}
 use Rattle.digits.specs.Lists.{All, Distinct}
 use Rattle.digits.proofs.ListLaws.{all-part, all-join}
-use Rattle.answers.specs.declared.Answer.{Answer}
-use Rattle.answers.specs.declared.Answer.the-variants.{Accepted, Refused}
+use Rattle.answers.specs.declared.Answer.the-variants.{Accepted}
 use Rattle.answers.specs.declared.Refusal.{Refusal}
 use Rattle.answers.specs.declared.Refusal.the-variants.{Identity, Room, Register, Target, Root, CodeLength, Children, Depth}
 use Rattle.answers.specs.Outcome.{Outcome, accepted, refused}
@@ -42,7 +41,7 @@ use Rattle.registers.proofs.AnswerLaws.{tree-held}
 use Rattle.edits.specs.Splice.{insertedBytes, deletedBytes}
 use Rattle.edits.specs.declared.Edit.{Edit}
 use Rattle.edits.specs.declared.Edit.the-variants.{Insert, Delete}
-use Rattle.edits.specs.Edits.{parented?, room?, fits?, putOutcome, insertAt, insertFound, insertOutcome, deleteAt, deleteFound, deleteOutcome, applyOutcome}
+use Rattle.edits.specs.Edits.{parented?, room?, fits?, insertFound, insertOutcome, deleteFound, deleteOutcome, applyOutcome}
 use Rattle.edits.proofs.SpliceLaws.{inserted-holds, deleted-holds}
 use Rattle.edits.proofs.PlaceLaws.{inner}
 use Rattle.edits.proofs.OutcomeLaws.{insert-absent, insert-found, at-put, put-done, delete-absent, delete-found, delete-leaf, room-for}

@@ -1,12 +1,12 @@
 -- Laws of the outcome of an edit, test by test in the paper's order. Assumes nothing.
-use mathlib.Core.Path.{_≡_, refl, sym, ap, _∙_}
-use mathlib.Core.Bool.{Bool, true, false, cond, _&&_, and-eq-true-iff}
+use mathlib.Core.Path.{_≡_, refl, sym}
+use mathlib.Core.Bool.{Bool, true, false, cond, and-eq-true-iff}
 use mathlib.Core.List.{List, [], _∷_}
-use Prim.Native.Nat.{ℕ, zero, suc, _+_, _≤_, _<_}
+use Prim.Native.Nat.{ℕ, suc, _+_, _≤_, _<_}
 use native.Mathlib.Omega.{arith}
 use lib.Dec.{eqb, leb, ltb}
 use lib.ListN.{length}
-use borrow.Author.Tests.{ltb-true, leb-true, eqb-true, eqb-false, le-leb, lt-leb, lt-ltb, le-ltb, ne-eqb}
+use borrow.Author.Tests.{ltb-true, leb-true, le-leb, lt-leb, lt-ltb, le-ltb}
 use Rattle.answers.specs.declared.Refusal.the-variants.{Identity, Room, Register, Target, Root, CodeLength, Children, Depth}
 use Rattle.answers.specs.Outcome.{accepted, refused}
 use Rattle.codes.specs.Code.{longest}
@@ -23,7 +23,7 @@ use Rattle.registers.specs.Holds.{identities}
 use Rattle.registers.specs.Questions.{countOf, linesOf, registerSound?, foundFrom, foundIn, treeOf}
 use Rattle.registers.proofs.QuestionLaws.{nothing-at}
 use Rattle.edits.specs.Splice.{insertedBytes, deletedBytes}
-use Rattle.edits.specs.Edits.{parented?, room?, fits?, putOutcome, insertAt, insertOutcome, deleteAt, deleteOutcome}
+use Rattle.edits.specs.Edits.{parented?, room?, putOutcome, insertAt, insertOutcome, deleteAt, deleteOutcome}
 
 -- 5 and 6
 module _ (b : List ℕ) (w : Where) (t : ℕ) (m : Name) where

@@ -1,17 +1,15 @@
 -- Laws of the loops that look for a neighbour and count the starts below a code, and what they find in a sound register.
 -- Assumes nothing.
-use mathlib.Core.Path.{_≡_, refl, sym, ap, _∙_, subst}
+use mathlib.Core.Path.{_≡_, refl, sym, ap, _∙_}
 use mathlib.Core.Bool.{Bool, true, false, cond}
-use mathlib.Core.List.{List, [], _∷_}
-use Prim.Native.Nat.{ℕ, zero, suc, _+_, _-_, _≤_, _<_}
+use mathlib.Core.List.{List, []}
+use Prim.Native.Nat.{ℕ, suc, _+_, _-_, _<_}
 use native.Mathlib.Numerals.{add-one}
 use native.Mathlib.Omega.{arith}
-use lib.Dec.{eqb}
-use lib.ListN.{length}
 use Rattle.digits.specs.Order.{Digits, below?}
 use Rattle.trees.specs.Labelled.{Name, Entry}
 use Rattle.trees.specs.Search.{toward?, closer, outermost, nearest, leading}
-use Rattle.registers.specs.Layout.{mostEntries, startPlace, endPlace, parentPlace}
+use Rattle.registers.specs.Layout.{startPlace, endPlace, parentPlace}
 use Rattle.registers.specs.Entries.{codeAt}
 use Rattle.registers.specs.Sound.{lineAt, linesFrom, CodeAt}
 use Rattle.registers.specs.Questions.{countOf, linesOf, registerSound?}

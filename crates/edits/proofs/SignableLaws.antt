@@ -1,13 +1,12 @@
 -- What an edit answers fits a signed number of 32 bits: a place is at most 4,096. Assumes nothing.
-use mathlib.Core.Path.{_≡_, refl, ap, _∙_}
+use mathlib.Core.Path.{_≡_, refl, ap}
 use mathlib.Core.Bool.{true}
 use mathlib.Core.List.{List}
-use Prim.Native.Nat.{ℕ, _^_, _≤_, _<_}
+use Prim.Native.Nat.{ℕ, _≤_}
 use native.Mathlib.Omega.{arith}
 use lib.Dec.{leb, ltb}
 use lib.ListN.{length, length-append}
 use Rattle.answers.specs.declared.Refusal.the-variants.{Identity, Room, Register, Root, CodeLength, Children, Depth}
-use Rattle.answers.specs.Outcome.{accepted}
 use Rattle.answers.specs.Signed.{Signable}
 use Rattle.answers.proofs.SignedLaws.{unless-signable}
 use Rattle.identities.specs.Rows.{fresh?}

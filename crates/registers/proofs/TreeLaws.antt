@@ -15,7 +15,7 @@ use Rattle.codes.proofs.TestLaws.{code?-true, true-code?}
 use Rattle.codes.proofs.ReadingLaws.{same?-true, same?-refl}
 use Rattle.labels.proofs.LabelLaws.{below?-holds}
 use Rattle.trees.specs.Forest.{Forest, nil, node, preorder, Rooted}
-use Rattle.trees.specs.Labelled.{Name, Entry, starts, ends, parents, codes, Sound}
+use Rattle.trees.specs.Labelled.{Name, Entry, starts, ends, parents, Sound}
 use Rattle.trees.specs.Check.{under?, InPlace, treeWalk?}
 use Rattle.trees.proofs.ListLaws.{all-append}
 use Rattle.trees.proofs.WalkLaws.{under?→, →under?}

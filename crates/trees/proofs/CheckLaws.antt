@@ -6,7 +6,7 @@ use mathlib.Core.Bool.{Bool, true, false≢true, and-eq-true-iff}
 use mathlib.Core.List.{List, [], _∷_, _++_, append-assoc}
 use Prim.Native.Nat.{ℕ, pred}
 use Rattle.digits.specs.Lists.{All}
-use Rattle.digits.specs.Order.{Digits, Below}
+use Rattle.digits.specs.Order.{Digits}
 use Rattle.digits.specs.Code.{Under, Rising}
 use Rattle.digits.proofs.ListLaws.{all-part, all-join}
 use Rattle.digits.proofs.OrderLaws.{below-asym}

@@ -3,7 +3,7 @@
 use mathlib.Core.Path.{_≡_, refl, sym, ap, _∙_, subst}
 use mathlib.Core.Logic.{_⊎_, inl, inr}
 use mathlib.Core.List.{List, [], _∷_, _++_, append-nil, append-assoc}
-use Prim.Native.Nat.{ℕ, zero, suc, max, _+_, _-_, _≤_, _<_}
+use Prim.Native.Nat.{ℕ, suc, _+_, _-_, _≤_, _<_}
 use native.Mathlib.Omega.{arith}
 use lib.ListN.{length}
 use Rattle.digits.specs.Lists.{All}
@@ -14,7 +14,7 @@ use Rattle.digits.proofs.ListLaws.{all-map, all-part}
 use Rattle.digits.proofs.OrderLaws.{below-trans}
 use Rattle.digits.proofs.CodeLaws.{formed-side, below-under, under-trans}
 use Rattle.digits.proofs.BetweenLaws.{between-pair}
-use Rattle.trees.specs.Forest.{Forest, nil, node, Height}
+use Rattle.trees.specs.Forest.{Forest, nil, node}
 use Rattle.trees.specs.Tour.{tour, Parents}
 use Rattle.trees.specs.Labelled.{Entry, starts, ends, parents, codes, Sound}
 use Rattle.trees.specs.Edit.{Spot, leaf, join, put, levelAt}

@@ -5,24 +5,24 @@ use mathlib.Core.Path.{_≡_, refl, sym, ap, _∙_, subst}
 use mathlib.Core.Logic.{_⊎_, inl, inr}
 use mathlib.Core.Bool.{Bool, true, false, cond, _&&_}
 use mathlib.Core.List.{List, [], _∷_, _++_}
-use Prim.Native.Nat.{ℕ, zero, suc, _+_, _<_}
+use Prim.Native.Nat.{ℕ, suc, _+_, _<_}
 use native.Mathlib.Omega.{arith}
 use lib.Dec.{eqb}
 use lib.ListN.{length, getD, length-append}
 use borrow.Author.Tests.{eqb-true, eqb-false, eq-eqb, ne-eqb}
 use Rattle.digits.specs.Lists.{All}
-use Rattle.digits.specs.Order.{Digits, Below, below?}
-use Rattle.digits.specs.Code.{Under, Rising}
+use Rattle.digits.specs.Order.{Digits, Below}
+use Rattle.digits.specs.Code.{Rising}
 use Rattle.digits.proofs.ListLaws.{all-map, all-part}
-use Rattle.digits.proofs.OrderLaws.{below-irrefl, below-asym, below-trans, below?-true, below?-false}
+use Rattle.digits.proofs.OrderLaws.{below-irrefl, below-asym, below?-true, below?-false}
 use Rattle.trees.specs.Lists.{Member, Pairs}
 use Rattle.trees.specs.Forest.{Forest, nil, node, size, preorder, Rooted}
 use Rattle.trees.specs.Tour.{tour}
 use Rattle.trees.specs.Labelled.{Entry, starts, ends, codes}
-use Rattle.trees.specs.Edit.{Where, lastChild, Spot, ahead, behind, levelAt, endSpot, spotOf, none?, leaf?}
+use Rattle.trees.specs.Edit.{lastChild, Spot, ahead, behind, levelAt, endSpot, spotOf, none?, leaf?}
 use Rattle.trees.specs.Neighbours.{lastOr, headOr, codesAhead, codesBehind, leftOf, rightOf}
 use Rattle.trees.specs.Search.{toward?, closer, outermost, nearest, leading}
-use Rattle.trees.proofs.ListLaws.{all-append, all-left, all-right, all→, →all, pairs-left, pairs-right, pairs-cross, member-left, member-right, member-append}
+use Rattle.trees.proofs.ListLaws.{all-append, all→, pairs-left, pairs-right, pairs-cross, member-left, member-right, member-append}
 use Rattle.trees.proofs.ForestLaws.{length-preorder}
 use Rattle.trees.proofs.TourLaws.{rising-pairs}
 use Rattle.trees.proofs.EditLaws.{number-cases, spot-down, spot-on, leaf-down, leaf-on, order-spot}

@@ -1,6 +1,5 @@
 -- `put_in` meets its contract. Assumes nothing.
-use mathlib.Core.Path.{_≡_, refl, sym, ap, _∙_, subst}
-use Prim.Native.Nat.{ℕ}
+use mathlib.Core.Path.{refl, sym, ap, _∙_, subst}
 use native.Mathlib.Omega.{arith}
 use Rattle.digits.specs.Order.{Digits}
 use Rattle.digits.specs.Between.{startOf, endOf}
@@ -10,7 +9,7 @@ use Rattle.codes.specs.Code.{IsCode}
 use Rattle.codes.specs.Spread.{Held}
 use Rattle.trees.specs.Forest.{Forest}
 use Rattle.trees.specs.Labelled.{Name, Entry, starts, ends}
-use Rattle.trees.specs.Edit.{Spot, spotOf}
+use Rattle.trees.specs.Edit.{spotOf}
 use Rattle.trees.specs.Neighbours.{leftOf, rightOf}
 use Rattle.trees.specs.Search.{leading}
 use Rattle.registers.specs.Questions.{linesOf, treeOf}

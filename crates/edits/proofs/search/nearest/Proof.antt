@@ -1,6 +1,5 @@
 -- `nearest` meets its contract. The loop's invariant: the search through all lines is the search from line i on. Assumes nothing.
 use mathlib.Core.Path.{_≡_, sym, ap, _∙_, subst}
-use mathlib.Core.List.{List}
 use Prim.Native.Nat.{ℕ, _-_, _≤_}
 use native.Mathlib.Omega.{arith}
 use Rattle.digits.specs.Order.{Digits}
