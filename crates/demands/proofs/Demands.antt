@@ -113,7 +113,8 @@ pub demand-2 : (table lent : List ℕ) (n : ℕ) → labelOutcome table lent .an
 demand-2 table lent n a edits =
     let l = label-accepted table lent n a in
     let h = label-holds table (l .rows) (l .checked) lent (l .room) in
-    let s = run-state edits (labelOutcome table lent .bytes) (tableTree table) longest (start table lent longest l (h .whole .sound .coded)) in
+    let s = run-state edits (labelOutcome table lent .bytes) (tableTree table) longest
+    (start table lent longest l (h .whole .sound .coded)) in
     let b = bufferAfter table lent edits in
     record {
       sound = holds-sound b (s .tree) (s .holds);
@@ -157,7 +158,8 @@ demand-3 table lent n a m e edits =
       first = w;
       best = λ h xs q d c. no-better 1 3 (omega arith) m h xs (subst (λ (j : ℕ). Enough 3 j m) (sym q) e) c d;
       grown =
-          subst (All (λ (u : Entry Name). (length (u .start) ≤ m + k) × (length (u .end) ≤ m + k))) (sym (lines-held b (s .tree) (s .holds)))
+          subst (All (λ (u : Entry Name). (length (u .start) ≤ m + k) × (length (u .end) ≤ m + k)))
+          (sym (lines-held b (s .tree) (s .holds)))
           (both-all (λ (x : Digits). length x ≤ m + k) (s .tree)
           (all-map (Within 1 3 (m + k)) (λ x. length x ≤ m + k) (λ x y. y .fits) (codes (s .tree)) (s .bounded .coded)));
       fits = λ h edit. never-long b (m + k) h

@@ -84,6 +84,7 @@ pub run-above : aboveAnswer (labelBytes (bufferAfter workedTable lent edits) 4) 
 unfolding labelOutcome checkedOf rowsFrom rowsOf thirdsDeep fieldOf entryBytes put read sound? walkRow entryAt lineAt tree? registerSound? treeOf insertedBytes deletedBytes insertOutcome deleteOutcome asked labelOf
 run-above = refl
 
-pub run-not-above : aboveAnswer (labelBytes (bufferAfter workedTable lent edits) 4) (labelBytes (bufferAfter workedTable lent edits) 3) ≡ pos 0
+pub run-not-above : aboveAnswer (labelBytes (bufferAfter workedTable lent edits) 4)
+    (labelBytes (bufferAfter workedTable lent edits) 3) ≡ pos 0
 unfolding labelOutcome checkedOf rowsFrom rowsOf thirdsDeep fieldOf entryBytes put read sound? walkRow entryAt lineAt tree? registerSound? treeOf insertedBytes deletedBytes insertOutcome deleteOutcome asked labelOf
 run-not-above = refl

@@ -23,6 +23,7 @@ use Rattle.trees.specs.Forest.{Forest, size, preorder}
 use Rattle.trees.specs.Axes.{Has, Parent, Ancestor, Sibling, Before}
 use Rattle.trees.specs.Questions.{ParentCodes, SiblingCodes}
 use Rattle.trees.specs.Labelled.{Name, Entry, starts, ends, parents, plain}
+use Rattle.trees.proofs.ListLaws.{member-at}
 use Rattle.trees.proofs.ForestLaws.{length-preorder, member→has, has→member}
 use Rattle.trees.proofs.ImageLaws.{size-image, preorder-image, depth-image, map-one, ancestor-image, parent-image, sibling-image, before-image}
 use Rattle.trees.proofs.KinLaws.{order-codes, above-codes, parent-codes, sibling-codes, one-start}
@@ -33,7 +34,7 @@ use Rattle.registers.specs.Questions.{countOf, linesOf, registerSound?, foundFr
 use Rattle.registers.proofs.RowLaws.{lines-length}
 use Rattle.registers.proofs.QuestionLaws.{line-at, place-found, depth-found, distance-found}
 use Rattle.registers.proofs.HoldsLaws.{lines-held, holds-sound}
-use Rattle.registers.proofs.AnswerLaws.{labelIn, asked-lines, depth-held}
+use Rattle.registers.proofs.AnswerLaws.{labelIn, asked-lines, depth-held, found-at}
 use Rattle.demands.specs.Answers.{Says, rightly-yes, rightly-no, SaysOrder, minus-one, zero-one, plus-one, entry, AllRight}
 
 -- a test that holds exactly where P does answers rightly
@@ -86,24 +87,10 @@ module _ (u v : Entry Name) where
       let s : same? (u .parent) (v .parent) ≡ true = ap (same? (u .parent)) (sym (c .equal)) ∙ same?-refl (u .parent) in
       rw (empty-not (u .parent) (c .left), empty-not (v .parent) (c .right), s, apart (u .start) (v .start) (c .different)) refl
 
--- an identity among different ones is found at its place
-found-at : (ys : List ℕ) (k i : ℕ) → Distinct ys → i < length ys → foundFrom k (getD ys i 0) ys ≡ At (k + i)
-found-at [] k i d h = absurd (omega arith)
-found-at (y ∷ ys) k zero d h = rw (eq-eqb y y refl) (ap At (omega arith))
-found-at (y ∷ ys) k (suc i) d h =
-    let l : i < length ys = omega arith in
-    let n : eqb (getD ys i 0) y ≡ false = ne-eqb (getD ys i 0) y (λ e. all-at (λ z. y ≢ z) ys i 0 (d .0) l (sym e)) in
-    rw n (found-at ys (suc k) i (d .1) l ∙ ap At (omega arith))
-
-at-member : {A : Type 0} (xs : List A) (i : ℕ) (d : A) → i < length xs → Member (getD xs i d) xs
-at-member [] i d h = absurd (omega arith)
-at-member (x ∷ xs) zero d h = inl refl
-at-member (x ∷ xs) (suc i) d h = inr (at-member xs i d (omega arith))
-
 abbrev nothing : Entry Name
 nothing = record { name = record { identity = 0; tag = 0 }; start = []; end = []; parent = [] }
 
-abbrev nameOf : Entry Name → Name
+abbrev pub nameOf : Entry Name → Name
 nameOf u = u .name
 
 module _ (b : List ℕ) (f : Forest (Entry Name)) (h : Holds b f) where
@@ -131,7 +118,7 @@ module _ (b : List ℕ) (f : Forest (Entry Name)) (h : Holds b f) where
   present i k =
       member→has f (lineAt b i)
       (subst (λ (u : Entry Name). Member u (preorder f)) (sym (line i k))
-      (at-member (preorder f) i nothing (omega (arith, length-preorder f, size-image nameOf f))))
+      (member-at (preorder f) i nothing (omega (arith, length-preorder f, size-image nameOf f))))
 
   one-name : (u v : Entry Name) → Has u f → Has v f → u .name ≡ v .name → u ≡ v
   one-name u v i j e =
@@ -166,9 +153,11 @@ module _ (b : List ℕ) (f : Forest (Entry Name)) (h : Holds b f) where
       where
         go : (a : ℤ) → Ordered (u .start) (v .start) a
             → SaysOrder (Before (u .name) (v .name) t) (u .name ≡ v .name) (Before (v .name) (u .name) t) a
-        go a (before c) = minus-one (before-image nameOf f one-name u v hu hv .0 (order-codes starts ends f (h .whole .sound .rising) u v hu hv .0 c))
+        go a (before c) = minus-one (before-image nameOf f one-name u v hu hv .0
+            (order-codes starts ends f (h .whole .sound .rising) u v hu hv .0 c))
         go a (same e) = zero-one (ap nameOf (one-start starts ends f (h .whole .sound .rising) u v hu hv e))
-        go a (behind c) = plus-one (before-image nameOf f one-name v u hv hu .0 (order-codes starts ends f (h .whole .sound .rising) v u hv hu .0 c))
+        go a (behind c) = plus-one (before-image nameOf f one-name v u hv hu .0
+            (order-codes starts ends f (h .whole .sound .rising) v u hv hu .0 c))
 
     says-above : Says (Ancestor (u .name) (v .name) t) (aboveAnswer (labelBytes b i) (labelBytes b j))
     says-above =
@@ -197,7 +186,8 @@ module _ (b : List ℕ) (f : Forest (Entry Name)) (h : Holds b f) where
       let ys = identities (preorder f) in
       let n : length ys ≡ size t = ids-length (preorder f) ∙ length-preorder f ∙ sym (size-image nameOf f) in
       let e : getD ys i 0 ≡ lineAt b i .name .identity =
-      List·getD-map (λ (u : Entry Name). u .name .identity) (preorder f) i nothing ∙ ap (λ (u : Entry Name). u .name .identity) (sym (line i k)) in
+      List·getD-map (λ (u : Entry Name). u .name .identity) (preorder f) i nothing ∙ ap (λ (u : Entry Name). u .name .identity)
+      (sym (line i k)) in
       let z : 0 + i ≡ i = omega arith in
       ap (λ us. foundFrom 0 (lineAt b i .name .identity) (identities us)) (lines-held b f h)
       ∙ ap (λ (x : ℕ). foundFrom 0 x ys) (sym e) ∙ found-at ys 0 i (h .whole .distinct) (omega arith) ∙ ap At z

@@ -16,7 +16,7 @@ use Rattle.trees.specs.Forest.{Forest, size, preorder}
 use Rattle.trees.specs.Labelled.{Name, Entry, plain, codes, labelled, Sound}
 use Rattle.trees.specs.Edit.{Spot, leaf, put, ahead, behind, spotOf, without}
 use Rattle.trees.specs.Neighbours.{newEntry, insertedEntry}
-use Rattle.trees.proofs.ListLaws.{member-left, member-right, member-append}
+use Rattle.trees.proofs.ListLaws.{map-twice, member-left, member-right, member-append}
 use Rattle.trees.proofs.ForestLaws.{has→member}
 use Rattle.trees.proofs.ImageLaws.{preorder-image, map-one}
 use Rattle.trees.proofs.EditLaws.{order-spot, order-put, inserted-image, without-image, taken}
@@ -38,10 +38,7 @@ use Rattle.edits.specs.Edits.{whereOf, targetOf, applyOutcome}
 use Rattle.edits.proofs.HoldsLaws.{count-size, insert-accepted, delete-accepted, apply-keeps}
 use Rattle.demands.specs.Run.{numberIn, changedAt, changed, answered, run, treeAfter, insertion, insertions}
 use Rattle.demands.specs.Demands.{LabelsStay}
-use Rattle.demands.proofs.RightLaws.{count-tree, name-at, present}
-
-abbrev nameOf : Entry Name → Name
-nameOf u = u .name
+use Rattle.demands.proofs.RightLaws.{nameOf, count-tree, name-at, present}
 
 -- the buffer holds a labelled tree whose plain tree is t and whose codes have at most m digits
 pub record State (b : List ℕ) (t : Forest Name) (m : ℕ) : Type 0 where
@@ -50,15 +47,12 @@ pub record State (b : List ℕ) (t : Forest Name) (m : ℕ) : Type 0 where
   pub named : plain tree ≡ t
   pub bounded : Sound (Within 1 3 m) (suc deepest) [] [] [] tree
 
-twice : (us : List (Entry Name)) → map (λ (n : Name). n .identity) (map nameOf us) ≡ identities us
-twice [] = refl
-twice (u ∷ us) = ap (λ (l : List ℕ). u .name .identity ∷ l) (twice us)
-
 -- an identity has one number, in the buffer and in the plain tree
 number-found : (b : List ℕ) (f : Forest (Entry Name)) (x : ℕ) → Holds b f → numberIn x (plain f) ≡ foundIn b x
 number-found b f x h =
     ap (λ (ns : List Name). foundFrom 0 x (map (λ (n : Name). n .identity) ns)) (preorder-image nameOf f)
-    ∙ ap (foundFrom 0 x) (twice (preorder f)) ∙ ap (λ us. foundFrom 0 x (identities us)) (sym (lines-held b f h))
+    ∙ ap (foundFrom 0 x) (map-twice nameOf (λ (n : Name). n .identity) (preorder f)) ∙ ap (λ us. foundFrom 0 x (identities us))
+    (sym (lines-held b f h))
 
 -- the plain tree of the labelled tree after an edit is that of the plain edit
 module _ (b : List ℕ) (f : Forest (Entry Name)) (h : Holds b f) where
@@ -155,7 +149,8 @@ same-label b c f g h k i j p q e =
 abbrev Under : Forest (Entry Name) → Forest (Entry Name) → Type 0
 Under f g = (u : Entry Name) → Member u (preorder f) → Member u (preorder g)
 
-one-entry : (f : Forest (Entry Name)) → Distinct (identities (preorder f)) → (u v : Entry Name) → Member u (preorder f) → Member v (preorder f)
+one-entry : (f : Forest (Entry Name)) → Distinct (identities (preorder f)) → (u v : Entry Name) → Member u (preorder f) → Member v
+    (preorder f)
     → u .name .identity ≡ v .name .identity → u ≡ v
 one-entry f d u v h k e = map-one (λ (w : Entry Name). w .name .identity) (preorder f) d u v h k e
 
@@ -194,14 +189,16 @@ module _ (b : List ℕ) (f : Forest (Entry Name)) (h : Holds b f) where
       let x : Name = record { identity = identity; tag = tag } in
       let r = insert-accepted b f h w (targetOf place) x n a in
       let q = spotOf w (r .number) f in
-      subst (LabelsStay b (plain f) (applyOutcome b (Insert place identity tag) .bytes)) (inserted-plain b f h place identity tag (r .number) (r .target))
+      subst (LabelsStay b (plain f) (applyOutcome b (Insert place identity tag) .bytes))
+      (inserted-plain b f h place identity tag (r .number) (r .target))
       (labels-stay b _ f (insertedEntry w (r .number) x f) h (r .holds) (inl (put-under (leaf (newEntry x f q)) f q)))
   accepted-stay (Delete target) n a =
       let r = delete-accepted b f h target n a in
       let t = taken f n (omega (arith, found-inside b target n (r .target), count-size b f h)) (r .leafy) in
       subst (LabelsStay b (plain f) (applyOutcome b (Delete target) .bytes)) (deleted-plain b f h target n (r .target))
       (labels-stay b _ f (without n f) h (r .holds)
-      (inr (subst (λ g. Under g f) (sym (t .taken-out)) (subst (Under (t .rest)) (t .put-back) (put-under (leaf (t .entry)) (t .rest) (t .spot))))))
+      (inr (subst (λ g. Under g f) (sym (t .taken-out)) (subst (Under (t .rest)) (t .put-back)
+      (put-under (leaf (t .entry)) (t .rest) (t .spot))))))
 
 pub step-stay : (b : List ℕ) (t : Forest Name) (m : ℕ) → State b t m → (e : Edit)
     → LabelsStay b t (applyOutcome b e .bytes) (answered (applyOutcome b e .answer) e t)

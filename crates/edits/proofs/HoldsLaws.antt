@@ -131,7 +131,8 @@ module _ (b : List ℕ) (f : Forest (Entry Name)) (h : Holds b f) where
           rooted = subst Rooted (t .taken-out) (rooted-without i f (h .whole .rooted) k p);
           most = omega (arith, size-put (leaf u) g q, ap size (t .put-back), h .whole .most);
           real = subst (All (λ y. y ≢ 0)) (sym m) (all-append (λ y. y ≢ 0) (identities us) (identities vs) (r .0) (r .2));
-          distinct = subst Distinct (sym m) (distinct-cut (identity u) (identities us) (identities vs) (subst Distinct n (h .whole .distinct)));
+          distinct = subst Distinct (sym m) (distinct-cut (identity u) (identities us) (identities vs)
+              (subst Distinct n (h .whole .distinct)));
           sound = sound-cut IsCode (suc deepest) (leaf u) g q
               (subst (Sound IsCode (suc deepest) [] [] []) (sym (t .put-back)) (h .whole .sound));
         };

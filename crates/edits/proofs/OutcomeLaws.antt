@@ -1,16 +1,15 @@
 -- Laws of the outcome of an edit, test by test in the paper's order. Assumes nothing.
 use mathlib.Core.Path.{_≡_, refl, sym}
-use mathlib.Core.Bool.{Bool, true, false, cond, and-eq-true-iff}
-use mathlib.Core.List.{List, [], _∷_}
-use Prim.Native.Nat.{ℕ, suc, _+_, _≤_, _<_}
+use mathlib.Core.Bool.{Bool, true, false, and-eq-true-iff}
+use mathlib.Core.List.{List}
+use Prim.Native.Nat.{ℕ, _+_, _≤_, _<_}
 use native.Mathlib.Omega.{arith}
-use lib.Dec.{eqb, leb, ltb}
+use lib.Dec.{leb, ltb}
 use lib.ListN.{length}
 use borrow.Author.Tests.{ltb-true, leb-true, le-leb, lt-leb, lt-ltb, le-ltb}
 use Rattle.answers.specs.declared.Refusal.the-variants.{Identity, Room, Register, Target, Root, CodeLength, Children, Depth}
 use Rattle.answers.specs.Outcome.{accepted, refused}
 use Rattle.codes.specs.Code.{longest}
-use Rattle.identities.specs.Identities.{among?}
 use Rattle.identities.specs.Rows.{fresh?}
 use Rattle.identities.proofs.RowLaws.{fresh-zero, fresh-used, fresh-right}
 use Rattle.trees.specs.Forest.{Forest}
@@ -20,8 +19,8 @@ use Rattle.trees.specs.Neighbours.{newEntry}
 use Rattle.registers.specs.declared.Found.the-variants.{At, Nothing}
 use Rattle.registers.specs.Layout.{mostEntries, deepest, entryPlace}
 use Rattle.registers.specs.Holds.{identities}
-use Rattle.registers.specs.Questions.{countOf, linesOf, registerSound?, foundFrom, foundIn, treeOf}
-use Rattle.registers.proofs.QuestionLaws.{nothing-at}
+use Rattle.registers.specs.Questions.{countOf, linesOf, registerSound?, foundIn, treeOf}
+use Rattle.registers.proofs.QuestionLaws.{found-among, among-found}
 use Rattle.edits.specs.Splice.{insertedBytes, deletedBytes}
 use Rattle.edits.specs.Edits.{parented?, room?, putOutcome, insertAt, insertOutcome, deleteAt, deleteOutcome}
 
@@ -108,24 +107,6 @@ module _ (b : List ℕ) (m : Name) (f : Forest (Entry Name)) (q : Spot f) where
     put-done k = rw (le-leb (length (x .start)) longest h, le-leb (length (x .end)) longest k) refl
 
 -- a fresh identity: not 0, and not found
-found-among : (x i : ℕ) (ys : List ℕ) → foundFrom i x ys ≡ Nothing → among? x ys ≡ false
-found-among x i [] e = refl
-found-among x i (y ∷ ys) e = go (eqb x y) (λ k. found-among x (suc i) ys k) e
-  where
-    go : (t : Bool) → (foundFrom (suc i) x ys ≡ Nothing → among? x ys ≡ false)
-        → cond t (At i) (foundFrom (suc i) x ys) ≡ Nothing → cond t true (among? x ys) ≡ false
-    go true more k = nothing-at (sym k)
-    go false more k = more k
-
-among-found : (x i j : ℕ) (ys : List ℕ) → foundFrom i x ys ≡ At j → among? x ys ≡ true
-among-found x i j [] e = nothing-at e
-among-found x i j (y ∷ ys) e = go (eqb x y) (λ k. among-found x (suc i) j ys k) e
-  where
-    go : (t : Bool) → (foundFrom (suc i) x ys ≡ At j → among? x ys ≡ true)
-        → cond t (At i) (foundFrom (suc i) x ys) ≡ At j → cond t true (among? x ys) ≡ true
-    go true more k = refl
-    go false more k = more k
-
 module _ (b : List ℕ) (x : ℕ) where
   pub zero-identity : x ≡ 0 → false ≡ fresh? x (identities (linesOf b))
   zero-identity e = sym (fresh-zero x (identities (linesOf b)) e)

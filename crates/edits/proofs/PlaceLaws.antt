@@ -110,11 +110,13 @@ module _ (b : List ℕ) (e : registerSound? b ≡ true) where
 
     pub own-left : upward? w ≡ true → codeAt b (ownPlace w i) ≡ leftOf starts ends f q
     own-left k =
-        sym (subst (λ (t : Bool). Own t (ownCode w (lineAt b i)) (leftOf starts ends f q) (rightOf starts ends f q)) k (place-at .own) ∙ own-is)
+        sym (subst (λ (t : Bool). Own t (ownCode w (lineAt b i)) (leftOf starts ends f q) (rightOf starts ends f q)) k (place-at .own)
+        ∙ own-is)
 
     pub own-right : upward? w ≡ false → codeAt b (ownPlace w i) ≡ rightOf starts ends f q
     own-right k =
-        sym (subst (λ (t : Bool). Own t (ownCode w (lineAt b i)) (leftOf starts ends f q) (rightOf starts ends f q)) k (place-at .own) ∙ own-is)
+        sym (subst (λ (t : Bool). Own t (ownCode w (lineAt b i)) (leftOf starts ends f q) (rightOf starts ends f q)) k (place-at .own)
+        ∙ own-is)
 
     module _ (p : parented? w i ≡ true) where
       pub inner : 0 < levelAt f q

@@ -90,7 +90,8 @@ module _ (b : List ℕ) (up : Bool) (x : Digits) where
   nearest-next e i h best next last p q =
       let u : Entry Name = lineAt b i in
       let r : closer up x (closer up x best (u .start)) (u .end) ≡ last =
-      ap (λ (z : Digits). closer up x (closer up x best z) (u .end)) (start-of b e i h) ∙ ap (λ (z : Digits). closer up x z (u .end)) (sym p)
+      ap (λ (z : Digits). closer up x (closer up x best z) (u .end)) (start-of b e i h) ∙ ap (λ (z : Digits). closer up x z (u .end))
+      (sym p)
       ∙ ap (closer up x next) (end-of b e i h) ∙ sym q in
       ap (nearest up x best) (lines-next b (countOf b) i h) ∙ ap
       (λ (z : Digits). nearest up x z (linesFrom b (suc i) (countOf b - suc i))) r

@@ -18,7 +18,8 @@ pub(crate) fn nearest(register: &[u8], from: usize, up: bool) -> usize
     requires from { ⌜ CodeAt (now register) from ⌝ }
     ensures code { λ r. ⌜ CodeAt (now (register .entry)) r ⌝ }
     ensures nearest { λ r. ⌜ codeAt (now (register .entry)) r
-        ≡ nearestOf up (codeAt (now (register .entry)) from) (outermost up (lineAt (now (register .entry)) 0)) (linesOf (now (register .entry))) ⌝ }
+        ≡ nearestOf up (codeAt (now (register .entry)) from) (outermost up (lineAt (now (register .entry)) 0))
+        (linesOf (now (register .entry))) ⌝ }
 {
     let n = registers::count(register);
     let mut best = outer_place(up);

@@ -2,22 +2,24 @@
 -- Assumes nothing.
 use mathlib.Core.Path.{_≡_, refl, sym, ap, _∙_, subst}
 use mathlib.Core.Logic.{inl, inr, _≢_, _↔_}
-use mathlib.Core.Bool.{Bool, true, false, cond, _&&_, and-eq-true-iff}
+use mathlib.Core.Bool.{Bool, true, false, cond, _&&_, and-eq-true-iff, and-false}
 use mathlib.Core.List.{List, [], _∷_, _++_, map}
 use Prim.Native.Nat.{ℕ, zero, suc, _+_, _≤_, _<_}
 use native.Mathlib.Omega.{arith}
 use lib.Dec.{eqb}
 use lib.IntN.{ℤ}
-use lib.ListN.{getD}
-use borrow.Author.Tests.{eqb-true, eqb-false}
-use Rattle.digits.specs.Lists.{All}
+use lib.ListN.{length, getD}
+use borrow.Author.Tests.{eqb-true, eq-eqb, ne-eqb}
+use Rattle.digits.specs.Lists.{All, Distinct}
 use Rattle.digits.specs.Order.{Digits, Below, below?}
+use Rattle.digits.proofs.ListLaws.{all-map, all-at}
 use Rattle.digits.specs.Code.{Rising}
 use Rattle.digits.proofs.OrderLaws.{below-irrefl, below-trans, below-asym, below?-true, below?-false}
 use Rattle.codes.specs.Code.{fieldSize, IsCode}
 use Rattle.codes.specs.Reading.{read, sideOf}
 use Rattle.labels.specs.Label.{startAt, endAt, parentAt, labelSize, fieldAt, Label, labelOf}
 use Rattle.labels.specs.Questions.{asked}
+use Rattle.identities.proofs.RowLaws.{differs}
 use Rattle.labels.proofs.LabelLaws.{below?-holds}
 use Rattle.trees.specs.Lists.{Member}
 use Rattle.trees.specs.Forest.{Forest, nil, node, preorder, Rooted}
@@ -42,7 +44,7 @@ use Rattle.registers.proofs.SoundLaws.{label-field}
 use Rattle.registers.proofs.RowLaws.{line-start, line-end, line-parent}
 use Rattle.registers.proofs.TreeLaws.{tree-lined}
 use Rattle.registers.proofs.HoldsLaws.{lines-held}
-use Rattle.registers.proofs.QuestionLaws.{parts-of, labels-sound, at-is, nothing-at, found-from}
+use Rattle.registers.proofs.QuestionLaws.{parts-of, labels-sound, at-is, nothing-at, found-from, found-among}
 
 -- an entry is above another by the test exactly where it is its ancestor
 pub above-ancestor : (b : List ℕ) (f : Forest (Entry Name)) → Holds b f → (u v : Entry Name) → Has u f → Has v f
@@ -58,15 +60,11 @@ above-ancestor b f h u v i j =
 not-below : (x y : Digits) → Below y x → below? x y ≡ false
 not-below x y h = below?-false x y (λ k. below-asym x y k h)
 
-and-no : (t : Bool) → (t && false) ≡ false
-and-no true = refl
-and-no false = refl
-
 by-start : (u v : Entry Name) → Below (v .start) (u .start) → aboveEntry? u v ≡ false
 by-start u v h = rw (not-below (u .start) (v .start) h) refl
 
 by-end : (u v : Entry Name) → Below (u .end) (v .end) → aboveEntry? u v ≡ false
-by-end u v h = rw (not-below (v .end) (u .end) h) (and-no (below? (u .start) (v .start)))
+by-end u v h = rw (not-below (v .end) (u .end) h) (and-false (below? (u .start) (v .start)))
 
 -- the count over two lists, and over entries that are not above
 depth-both : (v : Entry Name) (us ws : List (Entry Name)) → depthIn v (us ++ ws) ≡ depthIn v us + depthIn v ws
@@ -188,18 +186,21 @@ place-held b f x i h e =
     ap (λ us. getD (identities us) i 0) (sym (lines-held b f h))
     ∙ found-is (identities (linesOf b)) x 0 i (e ∙ ap At (let z : i ≡ 0 + i = omega arith in z))
 
-found-not : (ys : List ℕ) (x i : ℕ) → foundFrom i x ys ≡ Nothing → All (λ y. y ≢ x) ys
-found-not [] x i e = tt
-found-not (y ∷ ys) x i e = go (eqb x y) refl (λ f. found-not ys x (suc i) f) e
-  where
-    go : (t : Bool) → eqb x y ≡ t → (foundFrom (suc i) x ys ≡ Nothing → All (λ y. y ≢ x) ys)
-        → cond t (At i) (foundFrom (suc i) x ys) ≡ Nothing → All (λ y. y ≢ x) (y ∷ ys)
-    go true q more e = nothing-at (sym e)
-    go false q more e = (λ z. eqb-false x y q (sym z), more e)
-
 pub absent-held : (b : List ℕ) (f : Forest (Entry Name)) (x : ℕ) → Holds b f → foundIn b x ≡ Nothing
     → All (λ y. y ≢ x) (identities (preorder f))
-absent-held b f x h e = subst (λ us. All (λ y. y ≢ x) (identities us)) (lines-held b f h) (found-not (identities (linesOf b)) x 0 e)
+absent-held b f x h e =
+    subst (λ us. All (λ y. y ≢ x) (identities us)) (lines-held b f h)
+    (all-map (λ y. x ≢ y) (λ y. y ≢ x) (λ y n i. n (sym i)) (identities (linesOf b))
+    (differs x (identities (linesOf b)) (found-among x 0 (identities (linesOf b)) e)))
+
+-- an identity among different ones is found at its place
+pub found-at : (ys : List ℕ) (k i : ℕ) → Distinct ys → i < length ys → foundFrom k (getD ys i 0) ys ≡ At (k + i)
+found-at [] k i d h = absurd (omega arith)
+found-at (y ∷ ys) k zero d h = rw (eq-eqb y y refl) (ap At (omega arith))
+found-at (y ∷ ys) k (suc i) d h =
+    let l : i < length ys = omega arith in
+    let n : eqb (getD ys i 0) y ≡ false = ne-eqb (getD ys i 0) y (λ e. all-at (λ z. y ≢ z) ys i 0 (d .0) l (sym e)) in
+    rw n (found-at ys (suc k) i (d .1) l ∙ ap At (omega arith))
 
 -- the questions on two labels of a sound register are asked of the codes of its two lines
 abbrev pub labelIn : Entry Name → Label

@@ -78,7 +78,18 @@ label-parts b i h t =
     let r : parentPlace i ≡ at + 32 + 32 = omega arith in
     next-part b at 32 64
     ∙ ap (λ (z : List ℕ). take 32 (drop at b) ++ z) (next-part b (at + 32) 32 32)
-    ∙ sym (rw (line-start b i t, line-end b i t, line-parent b i t, sym (s .start-side .field), sym (s .end-side .field), sym (s .parent-side .field), p, q, r) refl)
+    ∙ sym (rw (
+      line-start b i t,
+      line-end b i t,
+      line-parent b i t,
+      sym (s .start-side .field),
+      sym (s .end-side .field),
+      sym
+          (s .parent-side .field),
+      p,
+      q,
+      r,
+    ) refl)
 
 -- a line that starts with a code has a sound label
 pub coded-sound : (b : List ℕ) (i : ℕ) → IsCode (lineAt b i .start) → soundLabel? b i ≡ true

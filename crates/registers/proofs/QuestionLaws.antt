@@ -23,6 +23,7 @@ use Rattle.answers.specs.declared.Answer.the-variants.{Refused}
 use Rattle.answers.specs.declared.Refusal.the-variants.{Register, Target}
 use Rattle.answers.specs.Number.{numberOf}
 use Rattle.answers.specs.Signed.{refusedAs, Signable}
+use Rattle.identities.specs.Identities.{among?}
 use Rattle.identities.specs.Rows.{allNew?}
 use Rattle.trees.specs.Labelled.{Name, Entry}
 use Rattle.registers.specs.declared.Found.{Found}
@@ -187,6 +188,25 @@ at-is e = cc
 
 pub nothing-at : {A : Type 0} {i : ℕ} → Nothing ≡ At i → A
 nothing-at e = let z : _≡_ {A = ℕ} 0 1 = cc in absurd (omega arith)
+
+-- an identity that is found is among the others, and one that is not is not
+pub found-among : (x i : ℕ) (ys : List ℕ) → foundFrom i x ys ≡ Nothing → among? x ys ≡ false
+found-among x i [] e = refl
+found-among x i (y ∷ ys) e = go (eqb x y) (λ k. found-among x (suc i) ys k) e
+  where
+    go : (t : Bool) → (foundFrom (suc i) x ys ≡ Nothing → among? x ys ≡ false)
+        → cond t (At i) (foundFrom (suc i) x ys) ≡ Nothing → cond t true (among? x ys) ≡ false
+    go true more k = nothing-at (sym k)
+    go false more k = more k
+
+pub among-found : (x i j : ℕ) (ys : List ℕ) → foundFrom i x ys ≡ At j → among? x ys ≡ true
+among-found x i j [] e = nothing-at e
+among-found x i j (y ∷ ys) e = go (eqb x y) (λ k. among-found x (suc i) j ys k) e
+  where
+    go : (t : Bool) → (foundFrom (suc i) x ys ≡ At j → among? x ys ≡ true)
+        → cond t (At i) (foundFrom (suc i) x ys) ≡ At j → cond t true (among? x ys) ≡ true
+    go true more k = refl
+    go false more k = more k
 
 found-bound : (ys : List ℕ) (x i j : ℕ) → foundFrom i x ys ≡ At j → j < i + length ys
 found-bound [] x i j e = nothing-at e

@@ -14,6 +14,7 @@ use Rattle.codes.specs.Code.{IsCode}
 use Rattle.trees.specs.Forest.{preorder, Rooted}
 use Rattle.trees.specs.Table.{Ruled, forest}
 use Rattle.trees.specs.Labelled.{Name, Entry, plain, codes, labelled}
+use Rattle.trees.proofs.ListLaws.{map-twice}
 use Rattle.trees.proofs.ImageLaws.{preorder-image}
 use Rattle.trees.proofs.TableLaws.{preorder-rows, ruled-height}
 use Rattle.trees.proofs.LabelledLaws.{plain-labelled, size-labelled, within-labelled, labelled-sound, rooted-labelled}
@@ -31,11 +32,6 @@ use Rattle.tables.proofs.RowLaws.{rows-length}
 use Rattle.tables.proofs.AcceptedLaws.{accepted, accepted-tree}
 use Rattle.tables.proofs.TourLaws.{naming, named-length}
 use Rattle.tables.proofs.LabelLaws.{count-most, tree-size, tree-codes, outcome-written}
-
--- a list that is mapped twice
-map-twice : {A B C : Type 0} (f : A → B) (g : B → C) (xs : List A) → map g (map f xs) ≡ map (λ x. g (f x)) xs
-map-twice f g [] = refl
-map-twice f g (x ∷ xs) = ap (λ l. g (f x) ∷ l) (map-twice f g xs)
 
 abbrev identity : Name → ℕ
 identity n = n .identity

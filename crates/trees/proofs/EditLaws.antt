@@ -17,7 +17,8 @@ use Rattle.trees.proofs.ImageLaws.{size-image}
 module _ {A : Type 0} where
   pub preorder-join : (f g : Forest A) → preorder (join f g) ≡ preorder f ++ preorder g
   preorder-join nil g = refl
-  preorder-join (node a c s) g = rw (preorder-join s g) (ap (λ (l : List A). a ∷ l) (sym (append-assoc (preorder c) (preorder s) (preorder g))))
+  preorder-join (node a c s) g = rw (preorder-join s g) (ap (λ (l : List A). a ∷ l)
+      (sym (append-assoc (preorder c) (preorder s) (preorder g))))
 
   -- document order is cut at a gap, and what is put in stands there: later entries move up, and nothing else
   pub order-spot : (f : Forest A) (q : Spot f) → preorder f ≡ ahead f q ++ behind f q

@@ -3,6 +3,9 @@
 use mathlib.Core.Path.{_≡_, refl, sym, ap}
 use mathlib.Core.Logic.{_⊎_, inl, inr, _≢_}
 use mathlib.Core.List.{List, [], _∷_, _++_, map, head-eq-of-cons-eq, tail-eq-of-cons-eq, nil≢cons, cons≢nil}
+use Prim.Native.Nat.{ℕ, zero, suc, _<_}
+use native.Mathlib.Omega.{arith}
+use lib.ListN.{length, getD}
 use Rattle.digits.specs.Lists.{All, Distinct}
 use Rattle.digits.proofs.ListLaws.{all-map, all-part, all-join}
 use Rattle.trees.specs.Lists.{Member, Earlier, Pairs}
@@ -144,6 +147,15 @@ module _ {A : Type 0} where
   earlier-asym (x ∷ xs) d u v (inl (e, m)) (inr k) = all→ (λ y. x ≢ y) xs (d .0) u (earlier-members xs v u k .1) (sym e)
   earlier-asym (x ∷ xs) d u v (inr h) (inl (i, n)) = all→ (λ y. x ≢ y) xs (d .0) v (earlier-members xs u v h .1) (sym i)
   earlier-asym (x ∷ xs) d u v (inr h) (inr k) = earlier-asym xs (d .1) u v h k
+
+pub map-twice : {A B C : Type 0} (f : A → B) (g : B → C) (xs : List A) → map g (map f xs) ≡ map (λ x. g (f x)) xs
+map-twice f g [] = refl
+map-twice f g (x ∷ xs) = ap (λ l. g (f x) ∷ l) (map-twice f g xs)
+
+pub member-at : {A : Type 0} (xs : List A) (i : ℕ) (d : A) → i < length xs → Member (getD xs i d) xs
+member-at [] i d h = absurd (omega arith)
+member-at (x ∷ xs) zero d h = inl refl
+member-at (x ∷ xs) (suc i) d h = inr (member-at xs i d (omega arith))
 
 pub map-append : {A B : Type 0} (g : A → B) (xs ys : List A) → map g (xs ++ ys) ≡ map g xs ++ map g ys
 map-append g [] ys = refl

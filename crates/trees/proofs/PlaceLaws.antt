@@ -104,7 +104,8 @@ module _ {A : Type 0} where
         level = omega (arith, b .level);
       })
 
-  beside-on : (w : Where) (u : Entry A) (c s : Forest (Entry A)) (i : ℕ) → i < size s → Placed w s i → Placed w (node u c s) (suc (size c + i))
+  beside-on : (w : Where) (u : Entry A) (c s : Forest (Entry A)) (i : ℕ) → i < size s → Placed w s i → Placed w (node u c s)
+      (suc (size c + i))
   beside-on w u c s i h t z l r p d k =
       let b = t z (u .end) r p d (k .2) in
       let e : getD (rows (suc d) c ++ rows d s) (size c + i) z ≡ getD (rows d s) i z =

@@ -3,7 +3,7 @@
 -- Assumes nothing.
 use mathlib.Core.Path.{_≡_, refl, sym, ap, _∙_, subst}
 use mathlib.Core.Logic.{_⊎_, inl, inr}
-use mathlib.Core.Bool.{Bool, true, false, cond, _&&_}
+use mathlib.Core.Bool.{Bool, true, false, cond, _&&_, and-false}
 use mathlib.Core.List.{List, [], _∷_, _++_}
 use Prim.Native.Nat.{ℕ, suc, _+_, _<_}
 use native.Mathlib.Omega.{arith}
@@ -81,10 +81,6 @@ module _ (up : Bool) (x z : Digits) (near : Toward up x z) where
       go false = h
   closer-far best y h (inr (inr k)) = subst (Far up z) (sym (kept best y (rw (toward-false up x y k) refl))) h
 
-  and-no : (t : Bool) → (t && false) ≡ false
-  and-no true = refl
-  and-no false = refl
-
   closer-stays : (y : Digits) → Nearest up x z y → closer up x z y ≡ z
   closer-stays y (inl e) = rw (sym e) (same (toward? up x z && toward? up z z))
     where
@@ -92,7 +88,7 @@ module _ (up : Bool) (x z : Digits) (near : Toward up x z) where
       same true = refl
       same false = refl
   closer-stays y (inr (inl k)) =
-      kept z y (rw (toward-false up y z (λ h. toward-asym up z y k h)) (and-no (toward? up x y)))
+      kept z y (rw (toward-false up y z (λ h. toward-asym up z y k h)) (and-false (toward? up x y)))
   closer-stays y (inr (inr k)) = kept z y (rw (toward-false up x y k) refl)
 
   closer-finds : (best : Digits) → Far up z best → closer up x best z ≡ z
@@ -148,8 +144,11 @@ module _ {A : Type 0} where
   pub both-all : (P : Digits → Type 0) (f : Forest (Entry A)) → All P (codes f) → All (λ u. P (u .start) × P (u .end)) (preorder f)
   both-all P nil h = tt
   both-all P (node u c s) h =
-      let q = all-part P (codes c) (codes s) (u .end) (h .1) in
-      ((h .0, q .1), all-append (λ (v : Entry A). P (v .start) × P (v .end)) (preorder c) (preorder s) (both-all P c (q .0)) (both-all P s (q .2)))
+      let q = all-part P (codes c) (codes s) (u .end) (h .1) in (
+        (h .0, q .1),
+        all-append (λ (v : Entry A). P (v .start) × P (v .end)) (preorder c) (preorder s) (both-all P c (q .0))
+            (both-all P s (q .2)),
+      )
 
   pub starts-all : (P : Digits → Type 0) (f : Forest (Entry A)) → All P (codes f) → All (λ u. P (u .start)) (preorder f)
   starts-all P f h =

@@ -23,9 +23,12 @@ same-length c = search needs
 
 returns : tie.Need-returns
 returns c =
-    let b = c .before .before .before .before .before .before .before .before .args .register .now in
-    let e = sym (c .before .before .before .before .before .edit .given .1) in
-    let i = c .before .before .insert .ensures in
+    let insert = c .before .before in
+    let edit = insert .before .before .before in
+    let start = edit .before .before .before in
+    let b = start .args .register .now in
+    let e = sym (edit .edit .given .1) in
+    let i = insert .insert .ensures in
     (i .0 ∙ ap (λ (z : Edit). applyOutcome b z .answer) e, i .1 ∙ ap (λ (z : Edit). applyOutcome b z .bytes) e)
 
 same-length-2 : tie.Need-same-length-2
@@ -33,9 +36,12 @@ same-length-2 c = search needs
 
 returns-2 : tie.Need-returns-2
 returns-2 c =
-    let b = c .before .before .before .before .before .before .before .before .args .register .now in
-    let e = sym (c .before .before .before .before .before .edit2 .given .1) in
-    let d = c .before .before .delete .ensures in
+    let delete = c .before .before in
+    let edit2 = delete .before .before .before in
+    let start = edit2 .before .before .before in
+    let b = start .args .register .now in
+    let e = sym (edit2 .edit2 .given .1) in
+    let d = delete .delete .ensures in
     (d .0 ∙ ap (λ (z : Edit). applyOutcome b z .answer) e, d .1 ∙ ap (λ (z : Edit). applyOutcome b z .bytes) e)
 
 pub apply-spec : {M : Type 1} → statement M

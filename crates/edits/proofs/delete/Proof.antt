@@ -16,13 +16,18 @@ same-length c = search needs
 
 returns : tie.Need-returns
 returns c =
-    let a = c .before .before .before .before .args in
-    gives _ _ _ _ _ (delete-unsound (a .register .now) (a .target) (sym (c .before .sound .ensures) ∙ not-true _ (c .if1 .taken))) refl refl
+    let sound = c .before in
+    let start = sound .before .before .before in
+    let a = start .args in
+    gives _ _ _ _ _ (delete-unsound (a .register .now) (a .target) (sym (sound .sound .ensures) ∙ not-true _ (c .if1 .taken))) refl refl
 
 find-requires : tie.Need-find-requires
 find-requires c κs =
-    let a = c .before .before .before .before .before .args in
-    parts-of (a .register .now) (sym (c .before .before .sound .ensures) ∙ not-false _ (c .before .if1 .left)) .sized
+    let test1 = c .before in
+    let sound = test1 .before in
+    let start = sound .before .before .before in
+    let a = start .args in
+    parts-of (a .register .now) (sym (sound .sound .ensures) ∙ not-false _ (test1 .if1 .left)) .sized
 
 enum-known-at : tie.Need-enum-known-at
 enum-known-at c = search needs
@@ -35,16 +40,25 @@ same-length-2 c = search needs
 
 returns-2 : tie.Need-returns-2
 returns-2 c =
-    let a = c .before .before .before .before .before .before .before .before .args in
+    let find = c .before .before in
+    let test1 = find .before .before in
+    let sound = test1 .before in
+    let start = sound .before .before .before in
+    let a = start .args in
     gives _ _ _ _ _
-    (delete-absent (a .register .now) (a .target) (sym (c .before .before .before .before .before .sound .ensures) ∙ not-false _ (c .before .before .before .before .if1 .left))
-    (sym (c .before .before .find .ensures) ∙ c .enum-told .given .1)) refl refl
+    (delete-absent (a .register .now) (a .target) (sym (sound .sound .ensures) ∙ not-false _ (test1 .if1 .left))
+    (sym (find .find .ensures) ∙ c .enum-told .given .1)) refl refl
 
 delete-at-requires : tie.Need-delete-at-requires
 delete-at-requires c κs =
-    let a = c .before .before .before .before .before .before .before .before .before .before .args in (
-      sym (c .before .before .before .before .before .before .before .sound .ensures) ∙ not-false _ (c .before .before .before .before .before .before .if1 .left),
-      found-inside (a .register .now) (a .target) _ (sym (c .before .before .before .before .find .ensures) ∙ c .before .before .at .given .1),
+    let at = c .before .before in
+    let find = at .before .before in
+    let test1 = find .before .before in
+    let sound = test1 .before in
+    let start = sound .before .before .before in
+    let a = start .args in (
+      sym (sound .sound .ensures) ∙ not-false _ (test1 .if1 .left),
+      found-inside (a .register .now) (a .target) _ (sym (find .find .ensures) ∙ at .at .given .1),
     )
 
 same-length-3 : tie.Need-same-length-3
@@ -52,11 +66,17 @@ same-length-3 c = search needs
 
 returns-3 : tie.Need-returns-3
 returns-3 c =
-    let a = c .before .before .before .before .before .before .before .before .before .before .before .before .before .args in
-    let d = c .before .before .delete-at .ensures in
+    let delete-at = c .before .before in
+    let at = delete-at .before .before .before in
+    let find = at .before .before in
+    let test1 = find .before .before in
+    let sound = test1 .before in
+    let start = sound .before .before .before in
+    let a = start .args in
+    let d = delete-at .delete-at .ensures in
     gives _ _ _ _ _
-    (delete-found (a .register .now) (a .target) (sym (c .before .before .before .before .before .before .before .before .before .before .sound .ensures) ∙ not-false _ (c .before .before .before .before .before .before .before .before .before .if1 .left)) _
-    (sym (c .before .before .before .before .before .before .before .find .ensures) ∙ c .before .before .before .before .before .at .given .1)) (d .0) (d .1)
+    (delete-found (a .register .now) (a .target) (sym (sound .sound .ensures) ∙ not-false _ (test1 .if1 .left)) _
+    (sym (find .find .ensures) ∙ at .at .given .1)) (d .0) (d .1)
 
 pub delete-spec : {M : Type 1} → statement M
 delete-spec =

@@ -10,11 +10,14 @@ use Rattle.edits.proofs.delete_at.Tie as tie
 
 returns : tie.Need-returns
 returns c =
-    let a = c .before .before .args in
+    let start = c .before .before in
+    let a = start .args in
     gives _ _ _ _ _ (delete-root (a .register .now) (a .at) (c .if1 .taken)) refl refl
 
 leaf-requires : tie.Need-leaf-requires
-leaf-requires c κs = c .before .before .before .pre
+leaf-requires c κs =
+    let start = c .before .before .before in
+    start .pre
 
 same-length : tie.Need-same-length
 same-length c = search needs
@@ -36,10 +39,13 @@ same-length-2 c = search needs
 
 returns-3 : tie.Need-returns-3
 returns-3 c =
-    let l = c .before .before .before .before .before in
+    let take-out = c .before .before in
+    let test2 = take-out .before .before in
+    let l = test2 .before in
     let a = l .before .before .before .before .args in
-    gives _ _ _ _ _ (delete-leaf (a .register .now) (a .at) (l .before .before .if1 .left) (sym (l .leaf .ensures) ∙ not-false _ (c .before .before .before .before .if2 .left))) refl
-    (c .before .before .take-out .ensures)
+    gives _ _ _ _ _ (delete-leaf (a .register .now) (a .at) (l .before .before .if1 .left)
+    (sym (l .leaf .ensures) ∙ not-false _ (test2 .if2 .left))) refl
+    (take-out .take-out .ensures)
 
 pub delete-at-spec : {M : Type 1} → statement M
 delete-at-spec =

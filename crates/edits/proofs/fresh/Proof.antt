@@ -25,7 +25,8 @@ returns-2 c =
 returns-3 : tie.Need-returns-3
 returns-3 c =
     let a = c .before .before .before .before .before .args in
-    new-identity (a .register .now) (a .identity) (c .before .before .before .if1 .left) (sym (c .before .before .find .ensures) ∙ c .enum-told2 .given .1)
+    new-identity (a .register .now) (a .identity) (c .before .before .before .if1 .left)
+    (sym (c .before .before .find .ensures) ∙ c .enum-told2 .given .1)
 
 pub fresh-spec : {M : Type 1} → statement M
 fresh-spec = tie.close (tie.spec returns find-requires enum-told enum-told-2 returns-2 returns-3)

@@ -19,10 +19,13 @@ same-length c = search needs
 
 returns : tie.Need-returns
 returns c =
-    let a = c .before .before .before .before .args in
+    let sound = c .before in
+    let start = sound .before .before .before in
+    let a = start .args in
     let m : Name = record { identity = a .identity; tag = a .tag } in
     gives _ _ _ _ _
-    (insert-unsound (a .register .now) (whereOf (a .place)) (targetOf (a .place)) m (sym (c .before .sound .ensures) ∙ not-true _ (c .if1 .taken)))
+    (insert-unsound (a .register .now) (whereOf (a .place)) (targetOf (a .place)) m
+    (sym (sound .sound .ensures) ∙ not-true _ (c .if1 .taken)))
     refl refl
 
 target-of-requires : tie.Need-target-of-requires
@@ -30,8 +33,11 @@ target-of-requires c κs = search needs
 
 find-requires : tie.Need-find-requires
 find-requires c κs =
-    let a = c .before .before .before .before .before .before .args in
-    parts-of (a .register .now) (sym (c .before .before .before .sound .ensures) ∙ not-false _ (c .before .before .if1 .left)) .sized
+    let test1 = c .before .before in
+    let sound = test1 .before in
+    let start = sound .before .before .before in
+    let a = start .args in
+    parts-of (a .register .now) (sym (sound .sound .ensures) ∙ not-false _ (test1 .if1 .left)) .sized
 
 enum-known-at : tie.Need-enum-known-at
 enum-known-at c = search needs
@@ -44,18 +50,28 @@ same-length-2 c = search needs
 
 returns-2 : tie.Need-returns-2
 returns-2 c =
-    let a = c .before .before .before .before .before .before .before .before .before .args in
+    let find = c .before .before in
+    let target-of = find .before in
+    let test1 = target-of .before .before in
+    let sound = test1 .before in
+    let start = sound .before .before .before in
+    let a = start .args in
     let m : Name = record { identity = a .identity; tag = a .tag } in
     gives _ _ _ _ _
     (insert-absent (a .register .now) (whereOf (a .place)) (targetOf (a .place)) m
-    (sym (c .before .before .before .before .before .before .sound .ensures) ∙ not-false _ (c .before .before .before .before .before .if1 .left))
-    (ap (foundIn (a .register .now)) (sym (c .before .before .before .target-of .ensures)) ∙ sym (c .before .before .find .ensures) ∙ c .enum-told .given .1)) refl refl
+    (sym (sound .sound .ensures) ∙ not-false _ (test1 .if1 .left))
+    (ap (foundIn (a .register .now)) (sym (target-of .target-of .ensures)) ∙ sym (find .find .ensures) ∙ c .enum-told .given .1)) refl refl
 
 insert-at-requires : tie.Need-insert-at-requires
 insert-at-requires c κs =
-    let a = c .before .before .before .before .before .before .before .before .before .before .before .args in (
-      sym (c .before .before .before .before .before .before .before .before .sound .ensures) ∙ not-false _ (c .before .before .before .before .before .before .before .if1 .left),
-      found-inside (a .register .now) _ _ (sym (c .before .before .before .before .find .ensures) ∙ c .before .before .at .given .1),
+    let at = c .before .before in
+    let find = at .before .before in
+    let test1 = find .before .before .before in
+    let sound = test1 .before in
+    let start = sound .before .before .before in
+    let a = start .args in (
+      sym (sound .sound .ensures) ∙ not-false _ (test1 .if1 .left),
+      found-inside (a .register .now) _ _ (sym (find .find .ensures) ∙ at .at .given .1),
     )
 
 same-length-3 : tie.Need-same-length-3
@@ -63,13 +79,20 @@ same-length-3 c = search needs
 
 returns-3 : tie.Need-returns-3
 returns-3 c =
-    let a = c .before .before .before .before .before .before .before .before .before .before .before .before .before .before .args in
+    let insert-at = c .before .before in
+    let at = insert-at .before .before .before in
+    let find = at .before .before in
+    let target-of = find .before in
+    let test1 = target-of .before .before in
+    let sound = test1 .before in
+    let start = sound .before .before .before in
+    let a = start .args in
     let m : Name = record { identity = a .identity; tag = a .tag } in
-    let i = c .before .before .insert-at .ensures in
+    let i = insert-at .insert-at .ensures in
     gives _ _ _ _ _
     (insert-found (a .register .now) (whereOf (a .place)) (targetOf (a .place)) m
-    (sym (c .before .before .before .before .before .before .before .before .before .before .before .sound .ensures) ∙ not-false _ (c .before .before .before .before .before .before .before .before .before .before .if1 .left)) _
-    (ap (foundIn (a .register .now)) (sym (c .before .before .before .before .before .before .before .before .target-of .ensures)) ∙ sym (c .before .before .before .before .before .before .before .find .ensures) ∙ c .before .before .before .before .before .at .given .1)) (i .0) (i .1)
+    (sym (sound .sound .ensures) ∙ not-false _ (test1 .if1 .left)) _
+    (ap (foundIn (a .register .now)) (sym (target-of .target-of .ensures)) ∙ sym (find .find .ensures) ∙ at .at .given .1)) (i .0) (i .1)
 
 pub insert-spec : {M : Type 1} → statement M
 insert-spec =

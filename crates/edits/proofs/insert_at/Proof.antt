@@ -16,64 +16,98 @@ parented-requires c κs = search needs
 
 returns : tie.Need-returns
 returns c =
-    let a = c .before .before .before .args in
+    let parented = c .before in
+    let start = parented .before .before in
+    let a = start .args in
     let m : Name = record { identity = a .identity; tag = a .tag } in
     gives _ _ _ _ _
-    (at-root (a .register .now) (whereOf (a .place)) (a .at) m (sym (c .before .parented .ensures) ∙ not-true _ (c .if1 .taken))) refl refl
+    (at-root (a .register .now) (whereOf (a .place)) (a .at) m (sym (parented .parented .ensures) ∙ not-true _ (c .if1 .taken))) refl refl
 
 fresh-requires : tie.Need-fresh-requires
-fresh-requires c κs = parts-of (c .before .before .before .before .args .register .now) (c .before .before .before .before .pre .0) .sized
+fresh-requires c κs =
+    let start = c .before .before .before .before in
+    parts-of (start .args .register .now) (start .pre .0) .sized
 
 same-length : tie.Need-same-length
 same-length c = search needs
 
 returns-2 : tie.Need-returns-2
 returns-2 c =
-    let a = c .before .before .before .before .before .before .args in
+    let fresh = c .before in
+    let test1 = fresh .before .before in
+    let parented = test1 .before in
+    let start = parented .before .before in
+    let a = start .args in
     let m : Name = record { identity = a .identity; tag = a .tag } in
     gives _ _ _ _ _
-    (at-used (a .register .now) (whereOf (a .place)) (a .at) m (sym (c .before .before .before .before .parented .ensures) ∙ not-false _ (c .before .before .before .if1 .left))
-    (sym (c .before .fresh .ensures) ∙ not-true _ (c .if2 .taken))) refl refl
+    (at-used (a .register .now) (whereOf (a .place)) (a .at) m (sym (parented .parented .ensures) ∙ not-false _ (test1 .if1 .left))
+    (sym (fresh .fresh .ensures) ∙ not-true _ (c .if2 .taken))) refl refl
 
 cast-if3 : tie.Need-cast-if3
 cast-if3 c = search needs
 
 level-requires : tie.Need-level-requires
-level-requires c κs = c .before .before .before .before .before .before .before .pre
+level-requires c κs =
+    let start = c .before .before .before .before .before .before .before in
+    start .pre
 
 same-length-2 : tie.Need-same-length-2
 same-length-2 c = search needs
 
 returns-3 : tie.Need-returns-3
 returns-3 c =
-    let a = c .before .before .before .before .before .before .before .before .before .args in
+    let level = c .before in
+    let test2 = level .before .before in
+    let fresh = test2 .before in
+    let test1 = fresh .before .before in
+    let parented = test1 .before in
+    let start = parented .before .before in
+    let a = start .args in
     let m : Name = record { identity = a .identity; tag = a .tag } in
     gives _ _ _ _ _
-    (at-deep (a .register .now) (whereOf (a .place)) (a .at) m (sym (c .before .before .before .before .before .before .before .parented .ensures) ∙ not-false _ (c .before .before .before .before .before .before .if1 .left))
-    (sym (c .before .before .before .before .fresh .ensures) ∙ not-false _ (c .before .before .before .if2 .left)) (omega (arith, c .before .level .ensures, c .if3 .taken))) refl refl
+    (at-deep (a .register .now) (whereOf (a .place)) (a .at) m (sym (parented .parented .ensures) ∙ not-false _ (test1 .if1 .left))
+    (sym (fresh .fresh .ensures) ∙ not-false _ (test2 .if2 .left)) (omega (arith, level .level .ensures, c .if3 .taken))) refl refl
 
 has-room-requires : tie.Need-has-room-requires
-has-room-requires c κs = parts-of (c .before .before .before .before .before .before .before .before .before .before .args .register .now) (c .before .before .before .before .before .before .before .before .before .before .pre .0) .sized
+has-room-requires c κs =
+    let start = c .before .before .before .before .before .before .before .before .before .before in
+    parts-of (start .args .register .now) (start .pre .0) .sized
 
 same-length-3 : tie.Need-same-length-3
 same-length-3 c = search needs
 
 returns-4 : tie.Need-returns-4
 returns-4 c =
-    let a = c .before .before .before .before .before .before .before .before .before .before .before .before .args in
+    let has-room = c .before in
+    let test3 = has-room .before .before in
+    let level = test3 .before in
+    let test2 = level .before .before in
+    let fresh = test2 .before in
+    let test1 = fresh .before .before in
+    let parented = test1 .before in
+    let start = parented .before .before in
+    let a = start .args in
     let m : Name = record { identity = a .identity; tag = a .tag } in
     gives _ _ _ _ _
-    (at-full (a .register .now) (whereOf (a .place)) (a .at) m (sym (c .before .before .before .before .before .before .before .before .before .before .parented .ensures) ∙ not-false _ (c .before .before .before .before .before .before .before .before .before .if1 .left))
-    (sym (c .before .before .before .before .before .before .before .fresh .ensures) ∙ not-false _ (c .before .before .before .before .before .before .if2 .left)) (omega (arith, c .before .before .before .before .level .ensures, c .before .before .before .if3 .left))
-    (sym (c .before .has-room .ensures) ∙ not-true _ (c .if4 .taken))) refl refl
+    (at-full (a .register .now) (whereOf (a .place)) (a .at) m (sym (parented .parented .ensures) ∙ not-false _ (test1 .if1 .left))
+    (sym (fresh .fresh .ensures) ∙ not-false _ (test2 .if2 .left)) (omega (arith, level .level .ensures, test3 .if3 .left))
+    (sym (has-room .has-room .ensures) ∙ not-true _ (c .if4 .taken))) refl refl
 
 put-in-requires : tie.Need-put-in-requires
 put-in-requires c κs =
-    let a = c .before .before .before .before .before .before .before .before .before .before .before .before .before in (
+    let test4 = c .before in
+    let has-room = test4 .before in
+    let test1 = has-room .before .before .before .before .before .before .before .before in
+    let parented = test1 .before in
+    let a = parented .before .before in (
       a .pre .0,
       (
         a .pre .1,
-        (sym (c .before .before .before .before .before .before .before .before .before .before .before .parented .ensures) ∙ not-false _ (c .before .before .before .before .before .before .before .before .before .before .if1 .left), sym (c .before .before .has-room .ensures) ∙ not-false _ (c .before .if4 .left)),
+        (
+          sym (parented .parented .ensures) ∙ not-false _ (test1 .if1 .left),
+          sym (has-room .has-room .ensures) ∙ not-false _
+              (test4 .if4 .left),
+        ),
       ),
     )
 
@@ -82,13 +116,23 @@ same-length-4 c = search needs
 
 returns-5 : tie.Need-returns-5
 returns-5 c =
-    let a = c .before .before .before .before .before .before .before .before .before .before .before .before .before .before .before .before .args in
+    let put-in = c .before .before in
+    let test4 = put-in .before .before in
+    let has-room = test4 .before in
+    let test3 = has-room .before .before in
+    let level = test3 .before in
+    let test2 = level .before .before in
+    let fresh = test2 .before in
+    let test1 = fresh .before .before in
+    let parented = test1 .before in
+    let start = parented .before .before in
+    let a = start .args in
     let m : Name = record { identity = a .identity; tag = a .tag } in
-    let p = c .before .before .put-in .ensures in
+    let p = put-in .put-in .ensures in
     gives _ _ _ _ _
-    (at-put (a .register .now) (whereOf (a .place)) (a .at) m (sym (c .before .before .before .before .before .before .before .before .before .before .before .before .before .before .parented .ensures) ∙ not-false _ (c .before .before .before .before .before .before .before .before .before .before .before .before .before .if1 .left))
-    (sym (c .before .before .before .before .before .before .before .before .before .before .before .fresh .ensures) ∙ not-false _ (c .before .before .before .before .before .before .before .before .before .before .if2 .left)) (omega (arith, c .before .before .before .before .before .before .before .before .level .ensures, c .before .before .before .before .before .before .before .if3 .left))
-    (sym (c .before .before .before .before .before .has-room .ensures) ∙ not-false _ (c .before .before .before .before .if4 .left))) (p .0) (p .1)
+    (at-put (a .register .now) (whereOf (a .place)) (a .at) m (sym (parented .parented .ensures) ∙ not-false _ (test1 .if1 .left))
+    (sym (fresh .fresh .ensures) ∙ not-false _ (test2 .if2 .left)) (omega (arith, level .level .ensures, test3 .if3 .left))
+    (sym (has-room .has-room .ensures) ∙ not-false _ (test4 .if4 .left))) (p .0) (p .1)
 
 pub insert-at-spec : {M : Type 1} → statement M
 insert-at-spec =

@@ -20,8 +20,11 @@ nearest-requires : tie.Need-nearest-requires
 nearest-requires c κs =
     let o = c .before in
     let a = o .before .before in
-    let b = a .args .register .now in
-    (a .pre .0, subst (CodeAt b) (sym (o .own-place .ensures)) (own-at b (a .pre .0) (whereOf (a .args .place)) (a .args .at) (a .pre .1 .0)))
+    let b = a .args .register .now in (
+      a .pre .0,
+      subst (CodeAt b) (sym (o .own-place .ensures)) (own-at b (a .pre .0) (whereOf (a .args .place)) (a .args .at)
+          (a .pre .1 .0)),
+    )
 
 upward-requires-2 : tie.Need-upward-requires-2
 upward-requires-2 c κs = search needs
@@ -39,7 +42,8 @@ returns c =
       (subst (CodeAt b) (sym (o .own-place .ensures)) (own-at b (a .pre .0) w i h), n .nearest .ensures .0),
       (
         ap (codeAt b) (o .own-place .ensures) ∙ own-left b (a .pre .0) w i h u,
-        other-right b (a .pre .0) w i h (a .pre .1 .1) (n .nearest .result) _ _ (n .before .upward .ensures) (o .own-place .ensures) u (n .nearest .ensures .1),
+        other-right b (a .pre .0) w i h (a .pre .1 .1) (n .nearest .result) _ _ (n .before .upward .ensures) (o .own-place .ensures) u
+            (n .nearest .ensures .1),
       ),
     )
 
@@ -55,7 +59,8 @@ returns-2 c =
     let u = sym (c .before .upward2 .ensures) ∙ c .if1 .left in (
       (n .nearest .ensures .0, subst (CodeAt b) (sym (o .own-place .ensures)) (own-at b (a .pre .0) w i h)),
       (
-        other-left b (a .pre .0) w i h (a .pre .1 .1) (n .nearest .result) _ _ (n .before .upward .ensures) (o .own-place .ensures) u (n .nearest .ensures .1),
+        other-left b (a .pre .0) w i h (a .pre .1 .1) (n .nearest .result) _ _ (n .before .upward .ensures) (o .own-place .ensures) u
+            (n .nearest .ensures .1),
         ap (codeAt b) (o .own-place .ensures) ∙ own-right b (a .pre .0) w i h u,
       ),
     )

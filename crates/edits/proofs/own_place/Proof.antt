@@ -32,16 +32,20 @@ end-place-requires-2 : tie.Need-end-place-requires-2
 end-place-requires-2 c κs = search needs
 
 returns : tie.Need-returns
-returns c = c .start-place .ensures ∙ ap (λ (p : Place). ownPlace (whereOf p) (c .before .before .before .args .at)) (sym (c .before .enum-told .given .1))
+returns c = c .start-place .ensures ∙ ap (λ (p : Place). ownPlace (whereOf p) (c .before .before .before .args .at))
+    (sym (c .before .enum-told .given .1))
 
 returns-2 : tie.Need-returns-2
-returns-2 c = c .end-place .ensures ∙ ap (λ (p : Place). ownPlace (whereOf p) (c .before .before .before .args .at)) (sym (c .before .enum-told2 .given .1))
+returns-2 c = c .end-place .ensures ∙ ap (λ (p : Place). ownPlace (whereOf p) (c .before .before .before .args .at))
+    (sym (c .before .enum-told2 .given .1))
 
 returns-3 : tie.Need-returns-3
-returns-3 c = c .start-place2 .ensures ∙ ap (λ (p : Place). ownPlace (whereOf p) (c .before .before .before .args .at)) (sym (c .before .enum-told3 .given .1))
+returns-3 c = c .start-place2 .ensures ∙ ap (λ (p : Place). ownPlace (whereOf p) (c .before .before .before .args .at))
+    (sym (c .before .enum-told3 .given .1))
 
 returns-4 : tie.Need-returns-4
-returns-4 c = c .end-place2 .ensures ∙ ap (λ (p : Place). ownPlace (whereOf p) (c .before .before .before .args .at)) (sym (c .before .enum-told4 .given .1))
+returns-4 c = c .end-place2 .ensures ∙ ap (λ (p : Place). ownPlace (whereOf p) (c .before .before .before .args .at))
+    (sym (c .before .enum-told4 .given .1))
 
 pub own-place-spec : {M : Type 1} → statement M
 own-place-spec =

@@ -16,7 +16,8 @@ returns : tie.Need-returns
 returns c =
     let a = c .before .before .before .args in
     c .start-place .ensures
-    ∙ ap (λ (t : Bool). cond t (startPlace (a .at)) (parentPlace (a .at))) (sym (c .before .if1 .taken) ∙ c .before .before .inside .ensures)
+    ∙ ap (λ (t : Bool). cond t (startPlace (a .at)) (parentPlace (a .at)))
+    (sym (c .before .if1 .taken) ∙ c .before .before .inside .ensures)
 
 parent-place-requires : tie.Need-parent-place-requires
 parent-place-requires c κs = search needs

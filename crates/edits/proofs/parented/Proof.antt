@@ -13,7 +13,8 @@ returns : tie.Need-returns
 returns c = search needs
 
 returns-2 : tie.Need-returns-2
-returns-2 c = let a = c .before .before .args in root-place (whereOf (a .place)) (a .at) _ (sym (c .before .inside .ensures) ∙ c .if1 .left) refl
+returns-2 c = let a = c .before .before .args in root-place (whereOf (a .place)) (a .at) _
+    (sym (c .before .inside .ensures) ∙ c .if1 .left) refl
 
 pub parented-spec : {M : Type 1} → statement M
 parented-spec = tie.close (tie.spec inside-requires returns returns-2)

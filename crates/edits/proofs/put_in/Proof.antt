@@ -31,7 +31,8 @@ started : (c : tie.After-step) →
     Held (c .step .result) (startOf (leftOf starts ends f q) (rightOf starts ends f q))
 started c =
     let n = c .before .before .before .before .before .neighbours .ensures .1 in
-    held-step (c .before .code-at2 .result) (c .before .before .before .code-at .result) _ _ _ (c .before .code-at2 .ensures .0 .digits ∙ n .0) (c .before .before .before .code-at .ensures .0 .digits ∙ n .1) (c .step .ensures)
+    held-step (c .before .code-at2 .result) (c .before .before .before .code-at .result) _ _ _
+    (c .before .code-at2 .ensures .0 .digits ∙ n .0) (c .before .before .before .code-at .ensures .0 .digits ∙ n .1) (c .step .ensures)
 
 ended : (c : tie.After-step2) →
     let a = c .before .before .before .before .before .before .before .before .before .before .before .args in
@@ -40,7 +41,9 @@ ended : (c : tie.After-step2) →
     Held (c .step2 .result) (endOf (leftOf starts ends f q) (rightOf starts ends f q))
 ended c =
     let n = c .before .before .before .before .before .before .before .before .neighbours .ensures .1 in
-    held-step (c .before .before .before .step .result) (c .before .before .before .before .before .before .code-at .result) _ _ _ (started (c .before .before .before) .digits) (c .before .before .before .before .before .before .code-at .ensures .0 .digits ∙ n .1) (c .step2 .ensures)
+    held-step (c .before .before .before .step .result) (c .before .before .before .before .before .before .code-at .result) _ _ _
+    (started (c .before .before .before) .digits) (c .before .before .before .before .before .before .code-at .ensures .0 .digits ∙ n .1)
+    (c .step2 .ensures)
 
 neighbours-requires : tie.Need-neighbours-requires
 neighbours-requires c κs =
@@ -51,10 +54,14 @@ code-at-requires : tie.Need-code-at-requires
 code-at-requires c κs = c .before .neighbours .ensures .0 .1
 
 code-at-requires-2 : tie.Need-code-at-requires-2
-code-at-requires-2 c κs = c .before .before .before .neighbours .ensures .0 .0
+code-at-requires-2 c κs =
+    let neighbours = c .before .before .before in
+    neighbours .neighbours .ensures .0 .0
 
 step-requires : tie.Need-step-requires
-step-requires c κs = (c .code-at2 .ensures .1, c .before .before .code-at .ensures .1)
+step-requires c κs =
+    let code-at = c .before .before in
+    (c .code-at2 .ensures .1, code-at .code-at .ensures .1)
 
 len-requires : tie.Need-len-requires
 len-requires c κs = search needs
@@ -64,14 +71,20 @@ same-length c = search needs
 
 returns : tie.Need-returns
 returns c =
-    let a = c .before .before .before .before .before .before .before .before .before .before .args in
+    let len = c .before in
+    let step = len .before in
+    let start = step .before .before .before .before .before .before .before .before in
+    let a = start .args in
     let f = treeOf (linesOf (a .register .now)) in
     gives _ _ _ _ _
     (put-long (a .register .now) (record { identity = a .identity; tag = a .tag }) f (spotOf (whereOf (a .place)) (a .at) f)
-    (omega (arith, started (c .before .before) .count, c .before .len .ensures))) refl refl
+    (omega (arith, started step .count, len .len .ensures))) refl refl
 
 step-requires-2 : tie.Need-step-requires-2
-step-requires-2 c κs = (omega (arith, c .before .len .ensures), c .before .before .before .before .before .code-at .ensures .1)
+step-requires-2 c κs =
+    let len = c .before in
+    let code-at = len .before .before .before .before in
+    (omega (arith, len .len .ensures), code-at .code-at .ensures .1)
 
 len-requires-2 : tie.Need-len-requires-2
 len-requires-2 c κs = search needs
@@ -81,14 +94,21 @@ same-length-2 c = search needs
 
 returns-2 : tie.Need-returns-2
 returns-2 c =
-    let a = c .before .before .before .before .before .before .before .before .before .before .before .before .before .args in
+    let len2 = c .before in
+    let step2 = len2 .before in
+    let len = step2 .before .before in
+    let step = len .before in
+    let start = step .before .before .before .before .before .before .before .before in
+    let a = start .args in
     let f = treeOf (linesOf (a .register .now)) in
     gives _ _ _ _ _
     (put-long-end (a .register .now) (record { identity = a .identity; tag = a .tag }) f (spotOf (whereOf (a .place)) (a .at) f)
-    (omega (arith, started (c .before .before .before .before .before) .count, c .before .before .before .before .len .ensures)) (omega (arith, ended (c .before .before) .count, c .before .len2 .ensures))) refl refl
+    (omega (arith, started step .count, len .len .ensures)) (omega (arith, ended step2 .count, len2 .len2 .ensures))) refl refl
 
 parent-from-requires : tie.Need-parent-from-requires
-parent-from-requires c κs = let a = c .before .before .before .before .before .before .before .before .before .before .before .before .before .before in omega (arith, a .pre .1 .0, sized-of _ (a .pre .0) .most)
+parent-from-requires c κs =
+    let a = c .before .before .before .before .before .before .before .before .before .before .before .before .before .before in
+    omega (arith, a .pre .1 .0, sized-of _ (a .pre .0) .most)
 
 code-at-requires-3 : tie.Need-code-at-requires-3
 code-at-requires-3 c κs =
@@ -97,26 +117,37 @@ code-at-requires-3 c κs =
     (c .parent-from .ensures) .0
 
 starts-below-requires : tie.Need-starts-below-requires
-starts-below-requires c κs = (c .before .before .before .before .before .before .before .before .before .before .before .before .before .before .before .before .before .pre .0, c .before .before .before .before .before .before .before .before .before .before .before .before .before .before .neighbours .ensures .0 .1)
+starts-below-requires c κs =
+    let neighbours = c .before .before .before .before .before .before .before .before .before .before .before .before .before .before in
+    let start = neighbours .before .before .before in
+    (start .pre .0, neighbours .neighbours .ensures .0 .1)
 
 write-in-requires : tie.Need-write-in-requires
 write-in-requires c κs =
-    let a = c .before .before .before .before .before .before .before .before .before .before .before .before .before .before .before .before .before .before .before in
+    let starts-below = c .before in
+    let code-at3 = starts-below .before .before in
+    let parent-from = code-at3 .before in
+    let len2 = parent-from .before .before .before in
+    let step2 = len2 .before in
+    let len = step2 .before .before in
+    let step = len .before in
+    let a = step .before .before .before .before .before .before .before .before in
     let b = a .args .register .now in
     let f = treeOf (linesOf b) in
     let n = new-codes b (a .pre .0) (record { identity = a .args .identity; tag = a .args .tag })
     (spotOf (whereOf (a .args .place)) (a .args .at) f) in
-    let p = parent-found b (a .pre .0) (whereOf (a .args .place)) (a .args .at) (a .pre .1 .0) (a .pre .1 .1 .0) _ (c .before .before .before .before .parent-from .ensures)
+    let p = parent-found b (a .pre .0) (whereOf (a .args .place)) (a .args .at) (a .pre .1 .0) (a .pre .1 .1 .0) _
+    (parent-from .parent-from .ensures)
     in (
       parts-of b (a .pre .0) .sized,
       (
         a .pre .1 .1 .1,
         (
-          c .before .starts-below .ensures .1,
+          starts-below .starts-below .ensures .1,
           (
-            held-code _ _ (started (c .before .before .before .before .before .before .before .before .before .before .before)) (n .0) (omega (arith, c .before .before .before .before .before .before .before .before .before .before .len .ensures)),
-            held-code _ _ (ended (c .before .before .before .before .before .before .before .before)) (n .1) (omega (arith, c .before .before .before .before .before .before .before .len2 .ensures)),
-            subst IsCode (sym (c .before .before .before .code-at3 .ensures .0 .digits)) (p .1),
+            held-code _ _ (started step) (n .0) (omega (arith, len .len .ensures)),
+            held-code _ _ (ended step2) (n .1) (omega (arith, len2 .len2 .ensures)),
+            subst IsCode (sym (code-at3 .code-at3 .ensures .0 .digits)) (p .1),
           ),
         ),
       ),
@@ -127,22 +158,35 @@ same-length-3 c = search needs
 
 returns-3 : tie.Need-returns-3
 returns-3 c =
-    let a = c .before .before .before .before .before .before .before .before .before .before .before .before .before .before .before .before .before .before .before .before .before .before in
+    let write-in = c .before .before in
+    let starts-below = write-in .before .before in
+    let code-at3 = starts-below .before .before in
+    let parent-from = code-at3 .before in
+    let test2 = parent-from .before .before in
+    let len2 = test2 .before in
+    let step2 = len2 .before in
+    let test1 = step2 .before in
+    let len = test1 .before in
+    let step = len .before in
+    let neighbours = step .before .before .before .before .before in
+    let a = neighbours .before .before .before in
     let b = a .args .register .now in
     let w = whereOf (a .args .place) in
     let i = a .args .at in
     let m : Name = record { identity = a .args .identity; tag = a .args .tag } in
     let f : Forest (Entry Name) = treeOf (linesOf b) in
-    let g = c .before .before .before .before .before .before .before .before .before .before .before .before .before .before .before .before .before .before .before .neighbours .ensures .1 in
-    let p = parent-found b (a .pre .0) w i (a .pre .1 .0) (a .pre .1 .1 .0) _ (c .before .before .before .before .before .before .before .parent-from .ensures) in
-    let s = started (c .before .before .before .before .before .before .before .before .before .before .before .before .before .before) in
-    let e = ended (c .before .before .before .before .before .before .before .before .before .before .before) in
-    let k = c .before .before .before .before .starts-below .ensures .0 ∙ ap (λ (r : Digits). leading r (linesOf b)) (g .1)
+    let g = neighbours .neighbours .ensures .1 in
+    let p = parent-found b (a .pre .0) w i (a .pre .1 .0) (a .pre .1 .1 .0) _ (parent-from .parent-from .ensures) in
+    let s = started step in
+    let e = ended step2 in
+    let k = starts-below .starts-below .ensures .0 ∙ ap (λ (r : Digits). leading r (linesOf b)) (g .1)
     ∙ found-place b (a .pre .0) w i (a .pre .1 .0) (a .pre .1 .1 .0) in
     gives _ _ _ _ _
-    (put-done b m f (spotOf w i f) (omega (arith, s .count, c .before .before .before .before .before .before .before .before .before .before .before .before .before .len .ensures)) (omega (arith, e .count, c .before .before .before .before .before .before .before .before .before .before .len2 .ensures)))
+    (put-done b m f (spotOf w i f) (omega (arith, s .count, len .len .ensures, test1 .if1 .left))
+    (omega (arith, e .count, len2 .len2 .ensures, test2 .if2 .left)))
     (ap Accepted k)
-    (c .before .before .write-in .ensures ∙ same-inserted b _ _ m _ _ _ _ _ _ k (s .digits) (e .digits) (c .before .before .before .before .before .before .code-at3 .ensures .0 .digits ∙ p .2))
+    (write-in .write-in .ensures ∙ same-inserted b _ _ m _ _ _ _ _ _ k (s .digits) (e .digits)
+    (code-at3 .code-at3 .ensures .0 .digits ∙ p .2))
 
 pub put-in-spec : {M : Type 1} → statement M
 put-in-spec =

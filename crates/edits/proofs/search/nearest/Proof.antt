@@ -98,15 +98,19 @@ loop-again c =
       l .loop .inv .3
           ∙ nearest-next b (a .args .up) x (a .pre .0) (l .loop .i) (omega (arith, l .loop .inv .1)) _ _ _
           (k .closer .ensures .1 ∙ ap (λ (z : ℕ). closer (a .args .up) x (codeAt b (l .loop .best)) (codeAt b z)) (s .start-place .ensures))
-          (c .closer2 .ensures .1 ∙ ap (λ (z : ℕ). closer (a .args .up) x (codeAt b (k .closer .result)) (codeAt b z)) (e .end-place .ensures)),
+          (c .closer2 .ensures .1 ∙ ap (λ (z : ℕ). closer (a .args .up) x (codeAt b (k .closer .result)) (codeAt b z))
+          (e .end-place .ensures)),
     )
 
 returns : tie.Need-returns Inv-loop μ-loop
 returns c =
     let l = c .before in
     let a = l .before .before .before .before in
-    let b = a .args .register .now in
-    (l .loop .inv .2, sym (l .loop .inv .3 ∙ nearest-none b (a .args .up) (codeAt b (a .args .from)) _ (l .loop .i) (omega (arith, l .loop .inv .1))))
+    let b = a .args .register .now in (
+      l .loop .inv .2,
+      sym (l .loop .inv .3 ∙ nearest-none b (a .args .up) (codeAt b (a .args .from)) _ (l .loop .i)
+          (omega (arith, l .loop .inv .1))),
+    )
 
 pub nearest-spec : {M : Type 1} → statement M
 nearest-spec =

@@ -51,7 +51,8 @@ returns c =
     let b = a .args .register .now in
     let r = codeAt b (a .args .at) in
     let s = leading-stop b r (a .pre .0) (l .loop .i) (omega (arith, l .loop .inv .1))
-    (ap (λ z. below? (codeAt b z) r) (sym (f .before .start-place .ensures)) ∙ sym (f .fields-below .ensures) ∙ not-true _ (c .if1 .taken)) in
+    (ap (λ z. below? (codeAt b z) r) (sym (f .before .start-place .ensures)) ∙ sym (f .fields-below .ensures) ∙ not-true _
+    (c .if1 .taken)) in
     (omega (arith, s, l .loop .inv .2), omega (arith, l .loop .inv .1))
 
 add-i : tie.Need-add-i Inv-loop μ-loop
@@ -71,7 +72,8 @@ loop-again c =
       l .loop .inv .1,
       l .loop .inv .2
           ∙ leading-next b r (a .pre .0) (l .loop .i) (omega (arith, l .loop .inv .1))
-          (ap (λ z. below? (codeAt b z) r) (sym (f .before .start-place .ensures)) ∙ sym (f .fields-below .ensures) ∙ not-false _ (c .if1 .left)),
+          (ap (λ z. below? (codeAt b z) r) (sym (f .before .start-place .ensures)) ∙ sym (f .fields-below .ensures) ∙ not-false _
+          (c .if1 .left)),
     )
 
 returns-2 : tie.Need-returns-2 Inv-loop μ-loop
