@@ -13,4 +13,17 @@ impl Random {
     pub fn below(&mut self, n: usize) -> usize {
         (self.next() % n as u64) as usize
     }
+
+    // A code of n digits.
+    pub fn code(&mut self, n: usize) -> Vec<u8> {
+        let mut code: Vec<u8> = (1..n).map(|_| 1 + self.below(3) as u8).collect();
+        code.push(2 + self.below(2) as u8);
+        code
+    }
+
+    // One bit of some bytes the other way round.
+    pub fn flip(&mut self, bytes: &mut [u8]) {
+        let bit = self.below(8 * bytes.len());
+        bytes[bit / 8] ^= 1 << bit % 8;
+    }
 }

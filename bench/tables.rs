@@ -1,77 +1,83 @@
-// What the benchmarks of tables and of registers share: 01's layout, the proved labelling, tables of a shape, identities seen.
-#![allow(dead_code)] // not every benchmark needs all of it
+// plant_label: agreement of all ways, then times.
+use crate::plain::tables::{listed, walked, Places};
+use crate::plant::{label, DEEPEST, ENTRY, HEADER, MOST, ROOM, ROW};
 use crate::random::Random;
+use crate::shapes::{table, SHAPES};
+use crate::time::{best, clocked, Plan, Timed, Way};
+use std::cell::RefCell;
 use std::collections::HashSet;
+use std::hint::black_box;
 
-pub const MOST: usize = 4_096;
-pub const DEEPEST: u32 = 63;
-pub const FIELD: usize = 32;
-pub const HEADER: usize = 8;
-pub const ENTRY: usize = 104;
-pub const START: usize = 8;
-pub const END: usize = START + FIELD;
-pub const PARENT: usize = END + FIELD;
+const ROUNDS: usize = 4;
+const ROWS_A_ROUND: usize = 40_960;
+const DAMAGED: usize = 1_000;
 
-#[inline(always)]
-pub fn write_number(bytes: &mut [u8], at: usize, number: u32) {
-    bytes[at..at + 4].copy_from_slice(&number.to_le_bytes());
-}
+// The proved call first.
+const WAYS: [(&str, fn(&[u32], &mut [u8]) -> i64); 4] = [
+    ("proved", label),
+    ("listed", listed::<Places>),
+    ("walked", walked::<Places>),
+    ("hash set", listed::<HashSet<u32>>),
+];
 
-// The proved labelling. A slice passes as a pointer and then a length.
-pub fn label(table: &[u32], register: &mut [u8]) -> i64 {
-    extern "C" {
-        fn plant_label(table: *const u32, numbers: usize, register: *mut u8, len: usize) -> i64;
+// Every way gives the same answer and the same bytes, also past the register; the answer.
+fn agreed(table: &[u32], room: usize) -> i64 {
+    let results = WAYS.map(|(_, way)| {
+        let mut register: Vec<u8> = (0..room).map(|i| i as u8).collect();
+        (way(table, &mut register), register)
+    });
+    for ((name, _), (answer, register)) in WAYS.iter().zip(&results) {
+        assert_eq!(*answer, results[0].0, "{name}: another answer, table {table:?}, room {room}");
+        assert!(*register == results[0].1, "{name}: other bytes, table {table:?}, room {room}");
     }
-    // SAFETY: both pointers are good for the lengths beside them, and the output is borrowed alone.
-    unsafe { plant_label(table.as_ptr(), table.len(), register.as_mut_ptr(), register.len()) }
+    results[0].0
 }
 
-pub const SHAPES: [&str; 3] = ["flat", "random", "chains"];
-
-// A table of a shape, with identities and tags at random.
-pub fn table(random: &mut Random, shape: &str, rows: usize) -> Vec<u32> {
-    let mut identities = HashSet::new();
-    let mut table = Vec::new();
-    let mut depth = 0;
-    while identities.len() < rows {
-        let identity = random.next() as u32;
-        if identity == 0 || !identities.insert(identity) {
-            continue;
-        }
-        table.extend([identity, random.next() as u32, depth]);
-        depth = match shape {
-            "flat" => 1,
-            "random" => 1 + random.below(DEEPEST.min(depth + 1) as usize) as u32,
-            _ => depth % DEEPEST + 1,
+// A table with a number or two changed.
+fn damaged(random: &mut Random, shape: &str) -> Vec<u32> {
+    let rows = 1 + random.below(80);
+    let mut damaged = table(random, shape, rows);
+    for _ in 0..1 + random.below(2) {
+        let at = random.below(damaged.len());
+        damaged[at] = match random.below(3) {
+            0 => damaged[random.below(rows) * ROW],
+            1 => random.below(66) as u32,
+            _ => 0,
         };
     }
-    table
+    damaged
 }
 
-// The identities seen so far: twice as many places as there are or more, a power of two; a free one holds 0.
-pub struct Places {
-    places: Vec<u32>,
-    shift: u32,
-}
-
-impl Places {
-    pub fn new(most: usize) -> Self {
-        let size = (2 * most).next_power_of_two();
-        Places { places: vec![0; size], shift: 32 - size.trailing_zeros() }
-    }
-
-    // Enters an identity that is not 0; whether it is new.
-    #[inline(always)]
-    pub fn enter(&mut self, identity: u32) -> bool {
-        let mask = self.places.len() - 1;
-        let mut at = (identity.wrapping_mul(2_654_435_761) >> self.shift) as usize & mask;
-        while self.places[at] != 0 {
-            if self.places[at] == identity {
-                return false;
-            }
-            at = at + 1 & mask;
+// Tables at exact room, more and less, cut in a row, one row too long, one row too deep, and damaged ones.
+pub fn check(random: &mut Random) {
+    let mut deep = table(random, "chains", 65);
+    deep[ROW * 64 + 2] = DEEPEST + 1;
+    assert_eq!(agreed(&deep, HEADER + ENTRY * 65), -64_100_002);
+    for shape in SHAPES {
+        for rows in (1..=100).chain([1_000, MOST - 1, MOST]) {
+            let table = table(random, shape, rows);
+            let size = HEADER + ENTRY * rows;
+            assert_eq!(agreed(&table, size), size as i64);
+            agreed(&table, size + 7);
+            assert_eq!(agreed(&table, size - 1), i64::from(ROOM));
+            agreed(&table[..ROW * rows - 1], size);
         }
-        self.places[at] = identity;
-        true
+        agreed(&table(random, shape, MOST + 1), HEADER + ENTRY * (MOST + 1));
+        for _ in 0..DAMAGED {
+            let damaged = damaged(random, shape);
+            agreed(&damaged, HEADER + ENTRY * damaged.len() / ROW);
+        }
     }
+}
+
+pub fn time(random: &mut Random, shape: &str, rows: usize) -> Timed {
+    let table = table(random, shape, rows);
+    let register = RefCell::new(vec![0; HEADER + ENTRY * rows]);
+    let calls = ROWS_A_ROUND / rows;
+    let ways = WAYS.map(|(name, way)| {
+        let (table, register) = (&table, &register);
+        let call = move |_| way(black_box(table), black_box(&mut register.borrow_mut()));
+        Way::new(name, move |_| clocked(|| (0..calls).map(call).sum()))
+    });
+    best(Plan { rounds: ROUNDS, pieces: 1, calls }, &ways)
 }

@@ -1,7 +1,8 @@
 /* The stack that each call of plant.h needs: it runs on a stack of its own, painted before, with a page below that may not be
- * touched. Inputs are the longest codes and tables and the largest registers, so that no call ends early. Answers are compared
- * too. A call may use LIMIT bytes, plant_label LABEL_LIMIT, a question on a register or an edit of one REGISTER_LIMIT. These
- * run too on a thread with no more than that above the least stack. */
+ * touched; then on one of just that size, which has to do, and on one 256 bytes smaller, which must not. Inputs are the longest
+ * codes and tables and the largest registers, sound and not. Answers are compared too. A call may use LIMIT bytes, plant_label
+ * LABEL_LIMIT, a question on a register or an edit of one REGISTER_LIMIT. These run too on a thread with no more than that
+ * above the least stack. At the end stands the most that each call took; with an argument only that is printed. */
 #define _DEFAULT_SOURCE
 #include <limits.h>
 #include <pthread.h>
@@ -10,12 +11,13 @@
 #include <stdlib.h>
 #include <string.h>
 #include <sys/mman.h>
+#include <sys/wait.h>
 #include <ucontext.h>
 #include <unistd.h>
 
 #include "plant.h"
 
-enum { STACK = 131072, LIMIT = 1024, LABEL_LIMIT = 49152, REGISTER_LIMIT = 65536, PAINT = 0xA5 };
+enum { STACK = 131072, LIMIT = 1024, LABEL_LIMIT = 49152, REGISTER_LIMIT = 65536, PAINT = 0xA5, STEP = 256 };
 
 static uint8_t digits[PLANT_LONGEST], left[PLANT_FIELD], right[PLANT_FIELD], made[PLANT_FIELD], read_back[PLANT_LONGEST];
 static uint8_t upper[PLANT_LABEL], lower[PLANT_LABEL];
@@ -25,6 +27,8 @@ static size_t room = sizeof reg;
 static uint32_t row, target; /* the row that is made, the target of an edit */
 static int64_t answer;
 static void (*under_way)(void); /* in a thread */
+static const char *input;       /* what the calls are made with */
+static int table_only;
 
 static void nothing(void) { answer = 0; }
 static void order(void) { answer = plant_order(upper, sizeof upper, lower, sizeof lower); }
@@ -58,35 +62,52 @@ static void *in_thread(void *unused)
 static const struct call {
     const char *name;
     void (*run)(void);
-    int64_t answer;
+    int64_t answer, refusal;
 } calls[] = {
-    {"plant_order", order, -1},   {"plant_above", above, 1},
-    {"plant_parent", parent, 1},  {"plant_sibling", sibling, 0},
-    {"plant_pack", pack, 127},    {"plant_unpack", unpack, 126},
-    {"plant_between", between, 127},
+    {"plant_pack", pack, 127, PLANT_NO_CODE},       {"plant_unpack", unpack, 126, PLANT_NO_CODE},
+    {"plant_between", between, 127, PLANT_NO_CODE}, {"plant_order", order, -1, PLANT_NO_LABEL},
+    {"plant_above", above, 1, PLANT_NO_LABEL},      {"plant_parent", parent, 1, PLANT_NO_LABEL},
+    {"plant_sibling", sibling, 0, PLANT_NO_LABEL},
 };
 
 /* Runs a function on a fresh stack and answers how many of its bytes were altered. */
-static size_t used(void (*run)(void))
+static size_t used_of(size_t size, void (*run)(void))
 {
     static ucontext_t here, there;
     size_t page = (size_t)sysconf(_SC_PAGESIZE);
-    uint8_t *all = mmap(NULL, page + STACK, PROT_READ | PROT_WRITE, MAP_PRIVATE | MAP_ANONYMOUS, -1, 0);
+    uint8_t *all = mmap(NULL, page + size, PROT_READ | PROT_WRITE, MAP_PRIVATE | MAP_ANONYMOUS, -1, 0);
     size_t untouched = 0;
 
     if (all == MAP_FAILED || mprotect(all, page, PROT_NONE) != 0 || getcontext(&there) != 0)
         exit(2);
-    memset(all + page, PAINT, STACK);
+    memset(all + page, PAINT, size);
     there.uc_stack.ss_sp = all + page;
-    there.uc_stack.ss_size = STACK;
+    there.uc_stack.ss_size = size;
     there.uc_link = &here;
     makecontext(&there, run, 0);
     if (swapcontext(&here, &there) != 0)
         exit(2);
-    while (untouched < STACK && all[page + untouched] == PAINT)
+    while (untouched < size && all[page + untouched] == PAINT)
         untouched++;
-    munmap(all, page + STACK);
-    return STACK - untouched;
+    munmap(all, page + size);
+    return size - untouched;
+}
+
+static size_t used(void (*run)(void)) { return used_of(STACK, run); }
+
+/* Whether a function ends on a stack of that size, in a process of its own. */
+static int ends_on(size_t size, void (*run)(void))
+{
+    pid_t child = fork();
+    int status;
+
+    if (child == 0) {
+        used_of(size, run);
+        _exit(0);
+    }
+    if (child < 0 || waitpid(child, &status, 0) != child || (WIFEXITED(status) && WEXITSTATUS(status) != 0))
+        exit(2);
+    return WIFEXITED(status);
 }
 
 /* A code of n digits: ones, then the last. */
@@ -122,25 +143,57 @@ static uint32_t chains(uint32_t previous) { return previous < 63 ? previous + 1 
 static uint32_t last_deepest(uint32_t previous) { return row <= PLANT_ROWS - 63 ? 1 : chains(previous); }
 static uint32_t random_depth(uint32_t previous) { return 1 + (uint32_t)rand() % (previous < 63 ? previous + 1 : 63); }
 
+/* The most that each call took, and with what */
+static struct most {
+    const char *call, *input;
+    size_t bytes, limit;
+} most[16];
+
+static void keep_most(const char *call, size_t bytes, size_t limit)
+{
+    struct most *m = most;
+
+    while (m->call != NULL && strcmp(m->call, call) != 0)
+        if (++m == most + sizeof most / sizeof most[0])
+            exit(2);
+    if (m->call == NULL || bytes > m->bytes)
+        *m = (struct most){call, input, bytes, limit};
+}
+
+static void print_most(void)
+{
+    printf("%-20s %7s %8s   %s\n", "call", "bytes", "allowed", "most with");
+    for (struct most *m = most; m < most + sizeof most / sizeof most[0] && m->call != NULL; m++)
+        printf("%-20s %7zu %8zu   %s\n", m->call, m->bytes, m->limit, m->input);
+}
+
 /* Runs a call and answers whether its answer or its stack is wrong. */
 static int wrong(const char *name, void (*run)(void), int64_t expected, size_t limit)
 {
-    size_t base = used(nothing), n;
+    size_t base = used(nothing), n, size;
+    int fits;
 
     run(); /* so that the linker's own work at a first call is not counted */
     answer = INT64_MIN;
     n = used(run) - base;
-    printf("%s: %zu bytes of stack\n", name, n);
+    size = (base + n + 63) / 64 * 64;
+    fits = ends_on(size, run) && (size <= base + STEP || !ends_on(size - STEP, run));
+    keep_most(name, n, limit);
+    if (!table_only)
+        printf("%s, %s: %zu bytes of stack\n", name, input, n);
     if (answer != expected)
-        printf("%s: %lld, not %lld\n", name, (long long)answer, (long long)expected);
+        printf("%s, %s: %lld, not %lld\n", name, input, (long long)answer, (long long)expected);
     if (n == 0 || n > limit)
-        printf("%s: not within 1 and %zu bytes\n", name, limit);
-    return answer != expected || n == 0 || n > limit;
+        printf("%s, %s: %zu bytes, not within 1 and %zu\n", name, input, n, limit);
+    if (!fits)
+        printf("%s, %s: %zu bytes are not the least stack\n", name, input, n);
+    return answer != expected || n == 0 || n > limit || !fits;
 }
 
-static int wrong_label(const char *name, int64_t expected)
+static int wrong_label(const char *with, int64_t expected)
 {
-    return wrong(name, label, expected, LABEL_LIMIT);
+    input = with;
+    return wrong("plant_label", label, expected, LABEL_LIMIT);
 }
 
 /* On a thread with `limit` bytes above the least stack */
@@ -154,7 +207,8 @@ static int wrong_in_thread(const char *name, void (*run)(void), int64_t expected
     if (pthread_attr_init(&attributes) != 0 || pthread_attr_setstacksize(&attributes, (size_t)PTHREAD_STACK_MIN + limit) != 0
         || pthread_create(&thread, &attributes, in_thread, NULL) != 0 || pthread_join(thread, NULL) != 0)
         exit(2);
-    printf("%s, in a thread of %zu bytes of stack: %lld\n", name, (size_t)PTHREAD_STACK_MIN + limit, (long long)answer);
+    if (!table_only || answer != expected)
+        printf("%s, in a thread of %zu bytes of stack: %lld\n", name, (size_t)PTHREAD_STACK_MIN + limit, (long long)answer);
     return answer != expected;
 }
 
@@ -163,7 +217,7 @@ static int wrong_questions(const char *shape, int64_t place_of_last, int64_t dep
 {
     int bad = 0;
 
-    printf("a register, %s:\n", shape);
+    input = shape;
     bad |= wrong("plant_place", place, place_of_last, REGISTER_LIMIT);
     bad |= wrong("plant_depth", depth, depth_of_last, REGISTER_LIMIT);
     bad |= wrong("plant_distance", distance, from_last_to_first, REGISTER_LIMIT);
@@ -207,7 +261,8 @@ static int wrong_registers(void)
     bad |= wrong_in_thread("plant_place", place, far, REGISTER_LIMIT);
     bad |= wrong_in_thread("plant_depth", depth, 63, REGISTER_LIMIT);
     bad |= wrong_in_thread("plant_distance", distance, -far, REGISTER_LIMIT);
-    bad |= wrong("plant_distance, an identity that is not there", absent, PLANT_NO_TARGET, REGISTER_LIMIT);
+    input = "an identity that is not there";
+    bad |= wrong("plant_distance", absent, PLANT_NO_TARGET, REGISTER_LIMIT);
     last[PLANT_ENTRY - 1] = 2;
     bad |= wrong_questions("the last byte damaged", refused, refused, refused);
     last[PLANT_ENTRY - 1] = 0;
@@ -237,13 +292,13 @@ static void make_room(uint32_t (*depth)(uint32_t), uint32_t identity)
 static int wrong_edits(const char *shape, uint32_t aimed, const int64_t expected[5])
 {
     static const struct call edits[] = {
-        {"plant_insert_first", insert_first, 0},   {"plant_insert_last", insert_last, 0},
-        {"plant_insert_before", insert_before, 0}, {"plant_insert_after", insert_after, 0},
-        {"plant_delete", delete, 0},
+        {.name = "plant_insert_first", .run = insert_first},   {.name = "plant_insert_last", .run = insert_last},
+        {.name = "plant_insert_before", .run = insert_before}, {.name = "plant_insert_after", .run = insert_after},
+        {.name = "plant_delete", .run = delete},
     };
     int bad = 0;
 
-    printf("edits of a register, %s, aimed at entry %u:\n", shape, aimed);
+    input = shape;
     memcpy(kept, reg, sizeof reg);
     target = aimed;
     for (size_t i = 0; i < 5; i++)
@@ -255,30 +310,46 @@ static int wrong_edits(const char *shape, uint32_t aimed, const int64_t expected
 static int wrong_all_edits(void)
 {
     const uint32_t last = PLANT_ROWS;
-    const int64_t refused = PLANT_NO_REGISTER;
+    const int64_t no = PLANT_NO_REGISTER, all_refused[] = {no, no, no, no, no};
     int bad = 0;
 
     make_room(flat, 2);
-    bad |= wrong_edits("flat", 1, (int64_t[]){1, last - 1, PLANT_ROOT, PLANT_ROOT, PLANT_ROOT});
-    bad |= wrong_edits("flat", last, (int64_t[]){last - 1, last - 1, last - 2, last - 1, last - 2});
+    bad |= wrong_edits("flat, aimed at the root", 1, (int64_t[]){1, last - 1, PLANT_ROOT, PLANT_ROOT, PLANT_ROOT});
+    bad |= wrong_edits("flat, aimed at the last", last, (int64_t[]){last - 1, last - 1, last - 2, last - 1, last - 2});
     make_room(chains, last);
-    bad |= wrong_edits("chains", 64, (int64_t[]){PLANT_DEPTH, PLANT_DEPTH, 63, 64, 63});
+    bad |= wrong_edits("chains, aimed at depth 63", 64, (int64_t[]){PLANT_DEPTH, PLANT_DEPTH, 63, 64, 63});
     label();
     bad |= wrong_edits("chains, full", 63, (int64_t[]){PLANT_ROOM, PLANT_ROOM, PLANT_ROOM, PLANT_ROOM, PLANT_CHILDREN});
     make_room(last_deepest, 2);
-    bad |= wrong_edits("the last at depth 63", last - 1, (int64_t[]){last - 2, last - 1, last - 3, last - 1, PLANT_CHILDREN});
+    bad |= wrong_edits("the last at depth 62", last - 1, (int64_t[]){last - 2, last - 1, last - 3, last - 1, PLANT_CHILDREN});
     bad |= wrong_edits("the last at depth 63", last, (int64_t[]){PLANT_DEPTH, PLANT_DEPTH, last - 2, last - 1, last - 2});
     bad |= wrong_in_thread("plant_insert_after", insert_after, last - 1, REGISTER_LIMIT);
     bad |= wrong_in_thread("plant_delete", delete, last - 2, REGISTER_LIMIT);
+    again()[PLANT_HEADER + PLANT_ENTRY * (PLANT_ROWS - 1) - 1] = 2;
+    bad |= wrong_edits("the last byte damaged", last, all_refused);
+    make_chain(65);
+    bad |= wrong_edits("one chain down to depth 64", last, all_refused);
     make_chain(63);
-    bad |= wrong_edits("one chain down to depth 62, long codes", last, (int64_t[]){63, 63, 62, 63, 62});
-    bad |= wrong_edits("the same", 1, (int64_t[]){PLANT_CODE_LENGTH, 63, PLANT_ROOT, PLANT_ROOT, PLANT_ROOT});
+    bad |= wrong_edits("one chain down to depth 62", last, (int64_t[]){63, 63, 62, 63, 62});
+    bad |= wrong_edits("one chain, aimed at the root", 1, (int64_t[]){PLANT_CODE_LENGTH, 63, PLANT_ROOT, PLANT_ROOT, PLANT_ROOT});
     reg[4] = 1;
-    bad |= wrong_edits("the second number not 0", 1, (int64_t[]){refused, refused, refused, refused, refused});
+    bad |= wrong_edits("the second number not 0", 1, all_refused);
     return bad;
 }
 
-int main(void)
+/* The calls on codes and labels, with sound inputs or with those damaged */
+static int wrong_codes(const char *with, int damaged)
+{
+    int bad = 0;
+
+    input = with;
+    for (size_t i = 0; i < sizeof calls / sizeof calls[0]; i++)
+        bad |= wrong(calls[i].name, calls[i].run, damaged ? calls[i].refusal : calls[i].answer, LIMIT);
+    return bad;
+}
+
+/* The longest codes, and then the last bit of each or the last digit wrong. */
+static int wrong_all_codes(void)
 {
     int bad = 0;
 
@@ -289,23 +360,46 @@ int main(void)
     make_label(upper, 127, 2, 124, 2);
     make_label(lower, 126, 2, 125, 2);
     memcpy(lower + 2 * PLANT_FIELD, upper, PLANT_FIELD);
-    for (size_t i = 0; i < sizeof calls / sizeof calls[0]; i++)
-        bad |= wrong(calls[i].name, calls[i].run, calls[i].answer, LIMIT);
+    bad |= wrong_codes("long codes", 0);
+    digits[PLANT_LONGEST - 1] = 1;
+    left[PLANT_FIELD - 1] |= 1;
+    lower[PLANT_LABEL - 1] |= 1;
+    bad |= wrong_codes("unsound at the end", 1);
+    return bad;
+}
+
+static int wrong_tables(void)
+{
+    int bad = 0;
+
     make_table(flat);
-    bad |= wrong_label("plant_label, flat", sizeof reg);
+    bad |= wrong_label("flat", sizeof reg);
     make_table(random_depth);
-    bad |= wrong_label("plant_label, random", sizeof reg);
+    bad |= wrong_label("random", sizeof reg);
     make_table(chains);
-    bad |= wrong_label("plant_label, chains", sizeof reg);
+    bad |= wrong_label("chains", sizeof reg);
     bad |= wrong_in_thread("plant_label", label, sizeof reg, LABEL_LIMIT);
-    bad |= wrong_registers();
-    bad |= wrong_all_edits();
-    make_table(chains);
     room--;
-    bad |= wrong_label("plant_label, no room", PLANT_ROOM);
+    bad |= wrong_label("no room", PLANT_ROOM);
     table[PLANT_ROW * (PLANT_ROWS - 1)] = 1;
-    bad |= wrong_label("plant_label, an identity twice", PLANT_IDENTITY - INT64_C(1000000) * (PLANT_ROWS - 1));
+    bad |= wrong_label("an identity twice", PLANT_IDENTITY - INT64_C(1000000) * (PLANT_ROWS - 1));
     table[PLANT_ROW * PLANT_ROWS - 1] = 0;
-    bad |= wrong_label("plant_label, a depth of 0", PLANT_ROW_DEPTH - INT64_C(1000000) * (PLANT_ROWS - 1));
+    bad |= wrong_label("a depth of 0", PLANT_ROW_DEPTH - INT64_C(1000000) * (PLANT_ROWS - 1));
+    room++;
+    return bad;
+}
+
+int main(int argc, char **argv)
+{
+    int bad = 0;
+
+    (void)argv;
+    table_only = argc > 1;
+    setvbuf(stdout, NULL, _IOLBF, BUFSIZ);
+    bad |= wrong_all_codes();
+    bad |= wrong_registers();
+    bad |= wrong_tables();
+    bad |= wrong_all_edits();
+    print_most();
     return bad;
 }
