@@ -22,6 +22,11 @@ pub →and : (a b : Bool) → T a → T b → T (a && b)
 →and true b t u = u
 →and false b t u = absurd t
 
+-- what is below a side with digits
+pub under-some : (x y : Digits) → 0 < length y → Under x y → Below x y
+under-some x [] n h = absurd (omega arith)
+under-some x (b ∷ y) n h = h
+
 module _ (least symbols : ℕ) where
   pub formed?→ : (x : Digits) → T (formed? least symbols x) → Formed least symbols x
   formed?→ [] t = t
@@ -90,14 +95,12 @@ module _ (least symbols : ℕ) where
       formed-cons a (x ++ y) (f .0) (f .1) (formed-append x y (formed-rest a x s) t)
 
   pub under-below : (x y : Digits) → Formed least symbols y → Under x y → Below x y
-  under-below x [] s h = absurd s
-  under-below x (b ∷ y) s h = h
+  under-below x y s h = under-some x y (formed-length y s) h
 
-  -- two rising lists with a code between them
-  pub rising-join : (l a r : Digits) (xs ys : List Digits) → Formed least symbols a → Rising l xs a → Rising a ys r
-      → Rising l (xs ++ (a ∷ ys)) r
-  rising-join l a r [] ys s h k = (under-below l a s h, k)
-  rising-join l a r (x ∷ xs) ys s h k = (h .0, rising-join x a r xs ys s (h .1) k)
+-- two rising lists with a code between them
+pub rising-join : (l a r : Digits) (xs ys : List Digits) → 0 < length a → Rising l xs a → Rising a ys r → Rising l (xs ++ (a ∷ ys)) r
+rising-join l a r [] ys n h k = (under-some l a n h, k)
+rising-join l a r (x ∷ xs) ys n h k = (h .0, rising-join x a r xs ys n (h .1) k)
 
 pub below-under : (x y : Digits) → Below x y → Under x y
 below-under x [] h = tt

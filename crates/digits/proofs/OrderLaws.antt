@@ -51,6 +51,10 @@ pub below-nil : (x : Digits) → Below x [] → ⊥
 below-nil [] h = h
 below-nil (a ∷ x) h = h
 
+pub below-some : (z x : Digits) → Below z x → 0 < length x
+below-some z [] b = absurd (below-nil z b)
+below-some z (a ∷ x) b = omega arith
+
 pub below-trans : (x y z : Digits) → Below x y → Below y z → Below x z
 below-trans [] y [] p q = absurd (below-nil y q)
 below-trans [] y (c ∷ z) p q = tt

@@ -14,7 +14,7 @@ use Rattle.digits.specs.Between.{Shape, Gap, remade, lower, between}
 use Rattle.digits.specs.Thirds.{lowerLess, firstAt, secondAt, first, second, leftPart, middlePart, rightPart, thirdsDeep, thirds}
 use Rattle.digits.proofs.ListLaws.{all-map, all-join}
 use Rattle.digits.proofs.OrderLaws.{Compared, compared, lt, eq, gt, below-append}
-use Rattle.digits.proofs.CodeLaws.{formed-side, side-formed, formed-append, under-below, below-under, rising-join}
+use Rattle.digits.proofs.CodeLaws.{formed-length, formed-side, side-formed, formed-append, under-below, below-under, rising-join}
 use Rattle.digits.proofs.BetweenLaws.{last-digit, remade-shape, remade-length, remade-order, kept, remade-kept, lowered-shape, below-lowered, between-inside, between-length, under-append, EndsTwo, ends-two-append}
 
 -- what a cut of a gap by two codes gives
@@ -103,8 +103,8 @@ thirds-deep-rising (suc n) l r (suc (suc (suc k))) g =
     let c = cut-cuts l r g in
     let a = first l r in
     let b = second l r in
-    rising-join 1 3 l a r (thirdsDeep n l a _) _ (c .lower-shape) (thirds-deep-rising n l a _ (c .left))
-    (rising-join 1 3 a b r (thirdsDeep n a b _) _ (c .upper-shape) (thirds-deep-rising n a b _ (c .middle))
+    rising-join l a r (thirdsDeep n l a _) _ (formed-length 1 3 a (c .lower-shape)) (thirds-deep-rising n l a _ (c .left))
+    (rising-join a b r (thirdsDeep n a b _) _ (formed-length 1 3 b (c .upper-shape)) (thirds-deep-rising n a b _ (c .middle))
     (thirds-deep-rising n b r _ (c .right)))
 
 -- demand 3 for any gap: a width of at most 3 ^ t gives codes of at most t digits more than the longer side

@@ -9,13 +9,13 @@ use Rattle.digits.specs.Lists.{All}
 use Rattle.digits.specs.Order.{Digits}
 use Rattle.digits.specs.Code.{Under, Rising}
 use Rattle.digits.proofs.ListLaws.{all-part, all-join}
-use Rattle.digits.proofs.OrderLaws.{below-asym}
-use Rattle.digits.proofs.CodeLaws.{below-under, under-trans}
+use Rattle.digits.proofs.OrderLaws.{below-asym, below-some}
+use Rattle.digits.proofs.CodeLaws.{below-under, under-trans, rising-join}
 use Rattle.trees.specs.Forest.{Forest, nil, node, preorder, Rooted, Height}
 use Rattle.trees.specs.Tour.{tour, Parents}
 use Rattle.trees.specs.Check.{InPlace, rest, thenFrom, whole?, rowWalk, treeWalk?}
 use Rattle.trees.proofs.ListLaws.{all-left, all-right}
-use Rattle.trees.proofs.TourLaws.{under-real, rising-under, rising-joined, at}
+use Rattle.trees.proofs.TourLaws.{under-real, rising-under, at}
 use Rattle.trees.proofs.WalkLaws.{→under?, →beyond?, whole?→, Good, walk-read, row-none, row-out, row-on}
 
 module _ {A : Type 0} (Code : Digits → Type 0) (st en ps : A → Digits) where
@@ -42,7 +42,7 @@ module _ {A : Type 0} (Code : Digits → Type 0) (st en ps : A → Digits) where
         let a = h .children in
         let b = h .next in
         record {
-          rising = (i .above, rising-joined (st x) (en x) r (tour st en c) (tour st en s) (st x) (i .inner) (a .rising) (b .rising));
+          rising = (i .above, rising-join (st x) (en x) r (tour st en c) (tour st en s) (below-some (st x) (en x) (i .inner)) (a .rising) (b .rising));
           coded = (i .start-code, all-join Code (tour st en c) (tour st en s) (en x) (a .coded) (i .end-code) (b .coded));
           parented = (i .parented, a .parented, b .parented);
           height = (i .deep, a .height, b .height);

@@ -11,8 +11,8 @@ use Rattle.digits.specs.Order.{Digits, Below}
 use Rattle.digits.specs.Code.{Formed, Within, Side, Under, Rising}
 use Rattle.digits.specs.Between.{Gap, Pair, startOf, endOf}
 use Rattle.digits.proofs.ListLaws.{all-map, all-part}
-use Rattle.digits.proofs.OrderLaws.{below-trans}
-use Rattle.digits.proofs.CodeLaws.{formed-side, below-under, under-trans}
+use Rattle.digits.proofs.OrderLaws.{below-trans, below-some}
+use Rattle.digits.proofs.CodeLaws.{formed-side, below-under, under-trans, rising-join}
 use Rattle.digits.proofs.BetweenLaws.{between-pair}
 use Rattle.trees.specs.Forest.{Forest, nil, node}
 use Rattle.trees.specs.Tour.{tour, Parents}
@@ -20,7 +20,6 @@ use Rattle.trees.specs.Labelled.{Entry, starts, ends, parents, codes, So
 use Rattle.trees.specs.Edit.{Spot, leaf, join, put, levelAt}
 use Rattle.trees.specs.Neighbours.{lastOr, headOr, codesAhead, codesBehind, leftOf, rightOf, parentAt, newEntry}
 use Rattle.trees.proofs.ListLaws.{all-left, all-right, all-append}
-use Rattle.trees.proofs.TourLaws.{rising-joined}
 use Rattle.trees.proofs.EditLaws.{height-put, height-cut}
 
 -- the last of two lists, and the first
@@ -66,7 +65,7 @@ module _ {A : Type 0} (st en : A → Digits) where
 -- a rising list put into a rising list, between two that stand next to each other, and taken out again
 rising-front : (l r : Digits) (ys zs : List Digits) → Rising l zs r → Rising l ys (headOr r zs) → Rising l (ys ++ zs) r
 rising-front l r ys [] h k = rw (append-nil ys) k
-rising-front l r ys (z ∷ zs) h k = rising-joined l z r ys zs l (h .0) k (h .1)
+rising-front l r ys (z ∷ zs) h k = rising-join l z r ys zs (below-some l z (h .0)) k (h .1)
 
 rising-put : (l r : Digits) (xs ys zs : List Digits) → Rising l (xs ++ zs) r → Rising (lastOr l xs) ys (headOr r zs)
     → Rising l (xs ++ (ys ++ zs)) r

@@ -9,8 +9,8 @@ use lib.ListN.{length, length-append}
 use Rattle.digits.specs.Lists.{All}
 use Rattle.digits.specs.Order.{Digits, Below}
 use Rattle.digits.specs.Code.{Under, Rising}
-use Rattle.digits.proofs.OrderLaws.{below-trans, below-nil}
-use Rattle.digits.proofs.CodeLaws.{under-trans}
+use Rattle.digits.proofs.OrderLaws.{below-trans, below-nil, below-some}
+use Rattle.digits.proofs.CodeLaws.{under-some, under-trans}
 use Rattle.trees.specs.Lists.{Pairs}
 use Rattle.trees.specs.Forest.{Forest, nil, node, size}
 use Rattle.trees.specs.Axes.{Has}
@@ -18,8 +18,7 @@ use Rattle.trees.specs.Tour.{tour}
 
 -- what stands above something is no open side
 pub under-real : (z x y : Digits) → Below z y → Under x y → Below x y
-under-real z x [] b u = absurd (below-nil z b)
-under-real z x (a ∷ y) b u = u
+under-real z x y b u = under-some x y (below-some z y b) u
 
 -- a rising list is below its right side, and cut at one of its codes it rises to it and from it
 pub rising-under : (l : Digits) (xs : List Digits) (r : Digits) → Rising l xs r → Under l r
@@ -38,12 +37,6 @@ rising-left l x r (z ∷ xs) ys h = (h .0, rising-left z x r xs ys (h .1))
 pub rising-right : (l x r : Digits) (xs ys : List Digits) → Rising l (xs ++ (x ∷ ys)) r → Rising x ys r
 rising-right l x r [] ys h = h .1
 rising-right l x r (z ∷ xs) ys h = rising-right z x r xs ys (h .1)
-
--- two rising lists with a code between them, which is no open side
-pub rising-joined : (l m r : Digits) (xs ys : List Digits) (z : Digits) → Below z m → Rising l xs m → Rising m ys r
-    → Rising l (xs ++ (m ∷ ys)) r
-rising-joined l m r [] ys z b h k = (under-real z l m b h, k)
-rising-joined l m r (x ∷ xs) ys z b h k = (h .0, rising-joined x m r xs ys z b (h .1) k)
 
 -- from link by link to all pairs
 rising-all : (z l : Digits) (xs : List Digits) (r : Digits) → Below z l → Rising l xs r → All (Below z) xs
