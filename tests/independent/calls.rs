@@ -59,6 +59,8 @@ mod archive {
     }
 }
 
+type Convert = unsafe extern "C" fn(*const u8, usize, *mut u8, usize) -> i32;
+
 const GUARD: usize = 128;
 
 // A lent buffer: guard bytes, which differ from call to call, before and behind it.
@@ -150,32 +152,34 @@ impl Host {
     }
 
     pub fn pack(&mut self, digits: &[u8], field: &[u8]) {
-        let (mut lent, mut out) = (self.lend(digits), self.lend(field));
-        // SAFETY: each pointer is good for the length beside it, and the buffers are apart.
-        let got = unsafe { archive::plant_pack(lent.get_mut(), digits.len(), out.get_mut(), field.len()) };
-        let mut after = field.to_vec();
-        let want = codes::pack(digits, &mut after);
-        self.same(Call::Pack, "digits", &lent, digits);
-        self.same(Call::Pack, "field", &out, &after);
-        self.settle(Call::Pack, got.into(), want);
+        self.convert(Call::Pack, ["digits", "field"], digits, field);
     }
 
     pub fn unpack(&mut self, field: &[u8], digits: &[u8]) {
-        let (mut lent, mut out) = (self.lend(field), self.lend(digits));
-        // SAFETY: as in pack.
-        let got = unsafe { archive::plant_unpack(lent.get_mut(), field.len(), out.get_mut(), digits.len()) };
-        let mut after = digits.to_vec();
-        let want = codes::unpack(field, &mut after);
-        self.same(Call::Unpack, "field", &lent, field);
-        self.same(Call::Unpack, "digits", &out, &after);
-        self.settle(Call::Unpack, got.into(), want);
+        self.convert(Call::Unpack, ["field", "digits"], field, digits);
+    }
+
+    // Digits into a field or a field into digits: the first buffer is read, the second written.
+    fn convert(&mut self, call: Call, [input, output]: [&str; 2], from: &[u8], to: &[u8]) {
+        let (archive, model): (_, fn(&[u8], &mut [u8]) -> Answer) = match call {
+            Call::Pack => (archive::plant_pack as Convert, codes::pack),
+            _ => (archive::plant_unpack as Convert, codes::unpack),
+        };
+        let (mut lent, mut out) = (self.lend(from), self.lend(to));
+        // SAFETY: each pointer is good for the length beside it, and the buffers are apart.
+        let got = unsafe { archive(lent.get_mut(), from.len(), out.get_mut(), to.len()) };
+        let mut after = to.to_vec();
+        let want = model(from, &mut after);
+        self.same(call, input, &lent, from);
+        self.same(call, output, &out, &after);
+        self.settle(call, got.into(), want);
     }
 
     // Both sides stand in one buffer, and may overlap.
     pub fn between(&mut self, sides: &[u8], left: Range<usize>, right: Range<usize>, field: &[u8]) {
         let (mut lent, mut out) = (self.lend(sides), self.lend(field));
         let (l, r) = lent.two(&left, &right);
-        // SAFETY: as in pack.
+        // SAFETY: as in convert.
         let got = unsafe { archive::plant_between(l, left.len(), r, right.len(), out.get_mut(), field.len()) };
         let mut after = field.to_vec();
         let want = codes::between_fields(&sides[left], &sides[right], &mut after);
@@ -194,7 +198,7 @@ impl Host {
             _ => archive::plant_sibling,
         };
         let (at_u, at_v) = lent.two(&u, &v);
-        // SAFETY: as in pack.
+        // SAFETY: as in convert.
         let got = unsafe { ask(at_u, u.len(), at_v, v.len()) };
         self.same(call, "labels", &lent, bytes);
         self.settle(call, got.into(), want);
@@ -203,7 +207,7 @@ impl Host {
     // Only distance has a second identity.
     pub fn ask_register(&mut self, call: Call, register: &[u8], x: u32, y: u32, want: Answer) {
         let mut lent = self.lend(register);
-        // SAFETY: as in pack.
+        // SAFETY: as in convert.
         let got = unsafe {
             match call {
                 Call::Place => archive::plant_place(lent.get_mut(), register.len(), x),
@@ -218,7 +222,7 @@ impl Host {
     // Labels a table into a copy of the buffer, and hands that back.
     pub fn label(&mut self, table: &[u32], register: &[u8], want: Answer, after: &[u8]) -> Vec<u8> {
         let (mut lent, mut out) = (self.lend(table), self.lend(register));
-        // SAFETY: as in pack.
+        // SAFETY: as in convert.
         let got = unsafe { archive::plant_label(lent.get_mut(), table.len(), out.get_mut(), register.len()) };
         self.same(Call::Label, "table", &lent, table);
         self.same(Call::Label, "register", &out, after);
@@ -234,10 +238,10 @@ impl Host {
             Call::InsertLast => archive::plant_insert_last,
             Call::InsertBefore => archive::plant_insert_before,
             Call::InsertAfter => archive::plant_insert_after,
-            // SAFETY: as in pack.
+            // SAFETY: as in convert.
             _ => return unsafe { archive::plant_delete(at, len, edit.target) }.into(),
         };
-        // SAFETY: as in pack.
+        // SAFETY: as in convert.
         unsafe { insert(at, len, edit.target, edit.identity, edit.tag) }.into()
     }
 }

@@ -9,17 +9,21 @@ use Rattle.answers.specs.declared.Answer.{Answer}
 use Rattle.answers.specs.declared.Answer.the-variants.{Accepted, Refused}
 use Rattle.answers.specs.declared.Refusal.{Refusal}
 use Rattle.answers.specs.Number.{numberOf}
-use Rattle.answers.specs.Outcome.{Outcome, accepted, unless}
+use Rattle.answers.specs.Outcome.{Outcome, accepted, Unaltered, unless}
 
 -- a refusal leaves every lent byte, and is answered where its test fails
 pub unless-fails : (r : Refusal) (b : List ℕ) (o : Outcome) → unless false r b o ≡ record { answer = Refused r; bytes = b }
 unless-fails r b o = refl
 
+-- an answer is not both
+pub accepted-refused : {A : Type 0} {n : ℕ} {r : Refusal} → Accepted n ≡ Refused r → A
+accepted-refused e = let z : _≡_ {A = ℕ} 0 1 = cc in absurd (omega arith)
+
 -- where something is accepted, the test held
 pub unless-accepted : (t : Bool) (r : Refusal) (b : List ℕ) (o : Outcome) (n : ℕ) → unless t r b o .answer ≡ Accepted n
     → (t ≡ true) × (o .answer ≡ Accepted n)
 unless-accepted true r b o n e = (refl, e)
-unless-accepted false r b o n e = let z : _≡_ {A = ℕ} 0 1 = cc in absurd (omega arith)
+unless-accepted false r b o n e = accepted-refused (sym e)
 
 -- a refusal that is not the test's own comes from what is asked later
 pub unless-later : (t : Bool) (r s : Refusal) (b : List ℕ) (o : Outcome) → (numberOf r ≡ numberOf s → ⊥)
@@ -27,16 +31,13 @@ pub unless-later : (t : Bool) (r s : Refusal) (b : List ℕ) (o : Outcome) → (
 unless-later true r s b o n e = e
 unless-later false r s b o n e = let z : r ≡ s = cc in absurd (n (ap numberOf z))
 
--- an outcome that leaves every byte where it is a refusal
-abbrev pub Keeps : List ℕ → Outcome → Type 0
-Keeps b o = (r : Refusal) → o .answer ≡ Refused r → o .bytes ≡ b
-
-pub keeps-unless : (t : Bool) (r : Refusal) (b : List ℕ) (o : Outcome) → Keeps b o → Keeps b (unless t r b o)
+-- a refusal keeps every byte
+pub keeps-unless : (t : Bool) (r : Refusal) (b : List ℕ) (o : Outcome) → Unaltered b o → Unaltered b (unless t r b o)
 keeps-unless true r b o k s e = k s e
 keeps-unless false r b o k s e = refl
 
-pub keeps-accepted : (b c : List ℕ) (n : ℕ) → Keeps b (accepted n c)
-keeps-accepted b c n r e = let z : _≡_ {A = ℕ} 0 1 = cc in absurd (omega arith)
+pub keeps-accepted : (b c : List ℕ) (n : ℕ) → Unaltered b (accepted n c)
+keeps-accepted b c n r e = accepted-refused e
 
 -- a call whose outcome is known gives that answer and leaves those bytes
 pub gives : (o : Outcome) (a b : Answer) (x y : List ℕ) → o ≡ record { answer = a; bytes = x } → b ≡ a → y ≡ x

@@ -14,8 +14,8 @@ use Rattle.digits.proofs.ListLaws.{all-map}
 use Rattle.digits.proofs.CountLaws.{no-better}
 use Rattle.answers.specs.declared.Answer.the-variants.{Accepted}
 use Rattle.answers.specs.declared.Refusal.the-variants.{Room, CodeLength, NoCode}
-use Rattle.answers.specs.Outcome.{Outcome, accepted}
-use Rattle.answers.proofs.OutcomeLaws.{unless-accepted, Keeps, keeps-unless, keeps-accepted}
+use Rattle.answers.specs.Outcome.{Outcome, Unaltered}
+use Rattle.answers.proofs.OutcomeLaws.{accepted-refused, unless-accepted, keeps-unless, keeps-accepted}
 use Rattle.numbers.specs.Bytes.{put}
 use Rattle.numbers.proofs.PutLaws.{put-run}
 use Rattle.codes.specs.declared.Sides.{Sides}
@@ -51,19 +51,19 @@ use Rattle.demands.proofs.RunLaws.{State, run-state, step-stay}
 use Rattle.demands.proofs.LengthLaws.{never-long}
 
 -- demand 1
-keeps-unpack : (r : Reading) (lent : List ℕ) → Keeps lent (unpackAs r lent)
+keeps-unpack : (r : Reading) (lent : List ℕ) → Unaltered lent (unpackAs r lent)
 keeps-unpack (code x) lent = keeps-unless (leb (length x) (length lent)) Room lent _ (keeps-accepted lent _ _)
 keeps-unpack empty lent = λ r e. refl
 keeps-unpack unsound lent = λ r e. refl
 
-keeps-between : (s : Sides) (x : Digits) (lent : List ℕ) → Keeps lent (betweenAs s x lent)
+keeps-between : (s : Sides) (x : Digits) (lent : List ℕ) → Unaltered lent (betweenAs s x lent)
 keeps-between NoSide x lent = λ r e. refl
 keeps-between Disordered x lent = λ r e. refl
 keeps-between Ordered x lent =
     keeps-unless (leb fieldSize (length lent)) Room lent _
     (keeps-unless (leb (length x) longest) CodeLength lent _ (keeps-accepted lent _ _))
 
-keeps-label : (k : Checked) (table lent : List ℕ) → Keeps lent (labelAs k table lent)
+keeps-label : (k : Checked) (table lent : List ℕ) → Unaltered lent (labelAs k table lent)
 keeps-label (Bad refusal) table lent = λ r e. refl
 keeps-label (Rows n) table lent = keeps-unless (leb (entryPlace n) (length lent)) Room lent _ (keeps-accepted lent _ _)
 
@@ -89,7 +89,7 @@ unfolding labelOutcome
 label-accepted table lent n a = go (checkedOf table) refl a
   where
     go : (k : Checked) → checkedOf table ≡ k → labelAs k table lent .answer ≡ Accepted n → Labelled table lent
-    go (Bad refusal) e h = let z : _≡_ {A = ℕ} 0 1 = cc in absurd (omega arith)
+    go (Bad refusal) e h = accepted-refused (sym h)
     go (Rows k) e h =
         let t = unless-accepted (leb (entryPlace k) (length lent)) Room lent _ n h in
         record { rows = k; checked = e; room = leb-true (entryPlace k) (length lent) (t .0) }

@@ -61,30 +61,26 @@ accepted = refl
 pub instance : Demand2 workedTable lent edits
 instance = demand-2 workedTable lent 424 accepted edits
 
--- the two refused edits are among the five accepted ones, each with its place or its reason
-pub run-answers : answers edits (labelOutcome workedTable lent .bytes)
-    ≡ Accepted 3 ∷ Accepted 2 ∷ Refused Root ∷ Accepted 2 ∷ Accepted 6 ∷ Refused Identity ∷ Accepted 5 ∷ []
-unfolding labelOutcome checkedOf rowsFrom rowsOf thirdsDeep fieldOf entryBytes put read sound? walkRow entryAt lineAt tree? registerSound? treeOf insertedBytes deletedBytes insertOutcome deleteOutcome
-run-answers = refl
+abbrev after : List ℕ
+after = bufferAfter workedTable lent edits
 
 abbrev name : ℕ → ℕ → Name
 name identity tag = record { identity = identity; tag = tag }
 
--- the tree that they describe: 10 over 11, 15 and 12; 11 over 16; 12 over 17 and 13
-pub run-tree : plainAfter workedTable lent edits
-    ≡ node (name 10 1)
-    (node (name 11 2) (leaf (name 16 6))
-    (node (name 15 5) nil (node (name 12 2) (node (name 17 7) nil (leaf (name 13 3))) nil)))
-    nil
-unfolding labelOutcome checkedOf rowsFrom rowsOf thirdsDeep fieldOf entryBytes put read sound? walkRow entryAt lineAt tree? registerSound? treeOf insertedBytes deletedBytes insertOutcome deleteOutcome
-run-tree = refl
+-- what the run gives: the two refused edits among the five accepted ones, each with its place or its reason; the tree that they
+-- describe, 10 over 11, 15 and 12, 11 over 16, 12 over 17 and 13; and that 12, at place 4, is above 17, at place 5, and not above 15
+pub record Computed : Type 0 where
+  pub run-answers : answers edits (labelOutcome workedTable lent .bytes)
+      ≡ Accepted 3 ∷ Accepted 2 ∷ Refused Root ∷ Accepted 2 ∷ Accepted 6 ∷ Refused Identity ∷ Accepted 5 ∷ []
+  pub run-tree : plainAfter workedTable lent edits
+      ≡ node (name 10 1)
+      (node (name 11 2) (leaf (name 16 6))
+      (node (name 15 5) nil (node (name 12 2) (node (name 17 7) nil (leaf (name 13 3))) nil)))
+      nil
+  pub run-above : aboveAnswer (labelBytes after 4) (labelBytes after 5) ≡ pos 1
+  pub run-not-above : aboveAnswer (labelBytes after 4) (labelBytes after 3) ≡ pos 0
 
--- 12, at place 4, is above 17, at place 5, and not above 15, at place 3
-pub run-above : aboveAnswer (labelBytes (bufferAfter workedTable lent edits) 4) (labelBytes (bufferAfter workedTable lent edits) 5) ≡ pos 1
-unfolding labelOutcome checkedOf rowsFrom rowsOf thirdsDeep fieldOf entryBytes put read sound? walkRow entryAt lineAt tree? registerSound? treeOf insertedBytes deletedBytes insertOutcome deleteOutcome asked labelOf
-run-above = refl
-
-pub run-not-above : aboveAnswer (labelBytes (bufferAfter workedTable lent edits) 4)
-    (labelBytes (bufferAfter workedTable lent edits) 3) ≡ pos 0
-unfolding labelOutcome checkedOf rowsFrom rowsOf thirdsDeep fieldOf entryBytes put read sound? walkRow entryAt lineAt tree? registerSound? treeOf insertedBytes deletedBytes insertOutcome deleteOutcome asked labelOf
-run-not-above = refl
+pub computed : Computed
+unfolding labelOutcome checkedOf rowsFrom rowsOf thirdsDeep fieldOf entryBytes put read sound? walkRow entryAt lineAt tree?
+    registerSound? treeOf insertedBytes deletedBytes insertOutcome deleteOutcome asked labelOf
+computed = record { run-answers = refl; run-tree = refl; run-above = refl; run-not-above = refl }

@@ -11,7 +11,7 @@ use Rattle.answers.specs.declared.Refusal.{Refusal}
 use Rattle.answers.specs.declared.Refusal.the-variants.{Identity, Room, Register, Target, Root, CodeLength, Children, Depth}
 use Rattle.answers.specs.Number.{numberOf}
 use Rattle.answers.specs.Outcome.{Outcome, accepted}
-use Rattle.answers.proofs.OutcomeLaws.{unless-later}
+use Rattle.answers.proofs.OutcomeLaws.{accepted-refused, unless-later}
 use Rattle.codes.specs.Code.{longest}
 use Rattle.identities.specs.Rows.{fresh?}
 use Rattle.trees.specs.Forest.{Forest}
@@ -31,7 +31,7 @@ use Rattle.edits.proofs.OutcomeLaws.{put-done}
 
 -- an accepted outcome is no refusal
 not-refused : (o : Outcome) (n : ℕ) (r : Refusal) → o .answer ≡ Accepted n → o .answer ≡ Refused r → ⊥
-not-refused o n r e k = let z : Accepted n ≡ Refused r = sym e ∙ k in let y : _≡_ {A = ℕ} 0 1 = cc in absurd (omega arith)
+not-refused o n r e k = accepted-refused (sym e ∙ k)
 
 other-number : (r s : Refusal) → (numberOf r ≡ numberOf s → ⊥) → Refused r ≡ Refused s → ⊥
 other-number r s n e = let z : r ≡ s = cc in n (ap numberOf z)

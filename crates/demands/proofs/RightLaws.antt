@@ -1,18 +1,14 @@
 -- A register that holds a tree answers rightly: order, above, parent, sibling, distance, place and depth are those of the plain tree.
 -- Assumes nothing.
 use mathlib.Core.Path.{_≡_, refl, sym, ap, _∙_, subst}
-use mathlib.Core.Logic.{inl, inr, _≢_}
+use mathlib.Core.Logic.{_≢_}
 use mathlib.Core.Bool.{Bool, true, false, not, _&&_, and-eq-true-iff, false≢true}
 use mathlib.Core.List.{List, [], _∷_}
-use Prim.Native.Nat.{ℕ, zero, suc, _+_, _<_}
+use Prim.Native.Nat.{ℕ, suc, _+_, _<_}
 use native.Mathlib.Omega.{arith}
-use lib.Dec.{eqb}
 use lib.IntN.{ℤ}
 use lib.ListN.{length, getD, List·getD-map}
-use borrow.Author.Tests.{eq-eqb, ne-eqb}
-use Rattle.digits.specs.Lists.{Distinct}
 use Rattle.digits.specs.Order.{Digits}
-use Rattle.digits.proofs.ListLaws.{all-at}
 use Rattle.answers.specs.Signed.{yesNo}
 use Rattle.codes.specs.Reading.{same?}
 use Rattle.codes.proofs.ReadingLaws.{same?-true, same?-refl}

@@ -11,9 +11,8 @@ use Rattle.digits.specs.Order.{Digits}
 use Rattle.digits.specs.Code.{Within}
 use Rattle.digits.specs.Thirds.{thirds}
 use Rattle.answers.specs.declared.Answer.the-variants.{Accepted, Refused}
-use Rattle.answers.specs.declared.Refusal.{Refusal}
 use Rattle.answers.specs.declared.Refusal.the-variants.{CodeLength}
-use Rattle.answers.specs.Outcome.{Outcome, accepted}
+use Rattle.answers.specs.Outcome.{accepted, Unaltered}
 use Rattle.numbers.specs.Bytes.{put}
 use Rattle.codes.specs.Code.{longest, fieldSize}
 use Rattle.codes.specs.Calls.{packOutcome, unpackOutcome, betweenOutcome}
@@ -28,9 +27,6 @@ use Rattle.demands.specs.Run.{tableTree, answered, run, treeAfter, inser
 use Rattle.demands.specs.Answers.{entry, AllRight}
 
 -- demand 1: a refused call alters no byte that was lent to it
-abbrev pub Unaltered : List ℕ → Outcome → Type 0
-Unaltered lent outcome = (refusal : Refusal) → outcome .answer ≡ Refused refusal → outcome .bytes ≡ lent
-
 pub record Demand1 : Type 0 where
   pub packing : (digits lent : List ℕ) → Unaltered lent (packOutcome digits lent)
   pub unpacking : (field lent : List ℕ) → Unaltered lent (unpackOutcome field lent)

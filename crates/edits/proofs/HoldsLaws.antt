@@ -12,10 +12,9 @@ use borrow.Author.Tests.{leb-true, ltb-true}
 use Rattle.digits.specs.Lists.{All, Distinct}
 use Rattle.digits.proofs.ListLaws.{all-part, all-join}
 use Rattle.answers.specs.declared.Answer.the-variants.{Accepted}
-use Rattle.answers.specs.declared.Refusal.{Refusal}
-use Rattle.answers.specs.declared.Refusal.the-variants.{Identity, Room, Register, Target, Root, CodeLength, Children, Depth}
-use Rattle.answers.specs.Outcome.{Outcome, accepted, refused}
-use Rattle.answers.proofs.OutcomeLaws.{unless-accepted, Keeps, keeps-unless, keeps-accepted}
+use Rattle.answers.specs.declared.Refusal.the-variants.{Identity, Room, Register, Root, CodeLength, Children, Depth}
+use Rattle.answers.specs.Outcome.{Outcome, accepted, Unaltered}
+use Rattle.answers.proofs.OutcomeLaws.{accepted-refused, unless-accepted, keeps-unless, keeps-accepted}
 use Rattle.codes.specs.Code.{longest, IsCode}
 use Rattle.identities.specs.Rows.{fresh?}
 use Rattle.identities.proofs.RowLaws.{new, differs}
@@ -159,9 +158,6 @@ pub record Deleted (b : List ℕ) (t : ℕ) (f : Forest (Entry Name)) (n : ℕ) 
 answered : (o : Outcome) (n k : ℕ) (c : List ℕ) → o ≡ accepted k c → o .answer ≡ Accepted n → n ≡ k
 answered o n k c e a = let z : Accepted n ≡ Accepted k = sym a ∙ ap (λ (p : Outcome). p .answer) e in cc
 
-not-accepted : {A : Type 0} (r : Refusal) (b : List ℕ) (n : ℕ) → refused r b .answer ≡ Accepted n → A
-not-accepted r b n e = let z : _≡_ {A = ℕ} 0 1 = cc in absurd (omega arith)
-
 -- in terms of the tree that the lines stand for
 module _ (b : List ℕ) (h : Holds b (treeOf (linesOf b))) where
   abbrev g : Forest (Entry Name)
@@ -206,7 +202,7 @@ module _ (b : List ℕ) (h : Holds b (treeOf (linesOf b))) where
       go : (k : Found) → foundIn b t ≡ k → Inserted b w t m g n
       go (At i) k = found i k
       go Nothing k =
-          not-accepted Target b n (ap (λ (p : Outcome). p .answer) (sym (insert-absent b w t m sound-here k)) ∙ a)
+          accepted-refused (sym a ∙ ap (λ (p : Outcome). p .answer) (insert-absent b w t m sound-here k))
 
   delete-here : (t n : ℕ) → deleteOutcome b t .answer ≡ Accepted n → Deleted b t g n
   delete-here t n a = go (foundIn b t) refl
@@ -230,7 +226,7 @@ module _ (b : List ℕ) (h : Holds b (treeOf (linesOf b))) where
 
       go : (k : Found) → foundIn b t ≡ k → Deleted b t g n
       go (At i) k = found i k
-      go Nothing k = not-accepted Target b n (ap (λ (p : Outcome). p .answer) (sym (delete-absent b t sound-here k)) ∙ a)
+      go Nothing k = accepted-refused (sym a ∙ ap (λ (p : Outcome). p .answer) (delete-absent b t sound-here k))
 
 module _ (b : List ℕ) (f : Forest (Entry Name)) (h : Holds b f) where
   here : Holds b (treeOf (linesOf b))
@@ -243,7 +239,7 @@ module _ (b : List ℕ) (f : Forest (Entry Name)) (h : Holds b f) where
   delete-accepted t n a = subst (λ g. Deleted b t g n) (tree-held b f h) (delete-here b here t n a)
 
 -- a refused edit leaves every byte
-keeps-insert : (b : List ℕ) (w : Where) (k : Found) (m : Name) → Keeps b (insertFound b w k m)
+keeps-insert : (b : List ℕ) (w : Where) (k : Found) (m : Name) → Unaltered b (insertFound b w k m)
 keeps-insert b w Nothing m = λ r e. refl
 keeps-insert b w (At i) m =
     keeps-unless (parented? w i) Root b _
@@ -252,12 +248,12 @@ keeps-insert b w (At i) m =
     (keeps-unless (room? b) Room b _
     (keeps-unless (fits? (newEntry m (treeOf (linesOf b)) (spotOf w i (treeOf (linesOf b))))) CodeLength b _ (keeps-accepted b _ _)))))
 
-keeps-delete : (b : List ℕ) (k : Found) → Keeps b (deleteFound b k)
+keeps-delete : (b : List ℕ) (k : Found) → Unaltered b (deleteFound b k)
 keeps-delete b Nothing = λ r e. refl
 keeps-delete b (At i) =
     keeps-unless (ltb 0 i) Root b _ (keeps-unless (leaf? i (treeOf (linesOf b))) Children b _ (keeps-accepted b _ _))
 
-pub apply-keeps : (b : List ℕ) (x : Edit) → Keeps b (applyOutcome b x)
+pub apply-keeps : (b : List ℕ) (x : Edit) → Unaltered b (applyOutcome b x)
 unfolding insertOutcome deleteOutcome
 apply-keeps b (Insert place identity tag) =
     keeps-unless (registerSound? b) Register b _ (keeps-insert b _ (foundIn b _) (record { identity = identity; tag = tag }))

@@ -133,6 +133,3 @@ module _ (b : List ℕ) where
 -- the place of the target
 pub root-place : (w : Where) (i : ℕ) (t : Bool) → inside? w ≡ false → t ≡ ltb 0 i → t ≡ parented? w i
 root-place w i t e h = rw e h
-
-pub inside-place : (w : Where) (i : ℕ) → inside? w ≡ true → true ≡ parented? w i
-inside-place w i e = rw e refl

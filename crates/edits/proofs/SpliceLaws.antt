@@ -44,7 +44,7 @@ head-run b h w i room e =
     ∙ run-under b 0 headerSize h (entriesAt b 0 i ++ w) (omega arith) (omega arith)
 
 -- an insertion: the later entries one place up, then the entry, then the header
-pub insert-runs : (b b₁ b₂ b₃ v h : List ℕ) (n i : ℕ) → i ≤ n → entryPlace (n + 1) ≤ length b
+insert-runs : (b b₁ b₂ b₃ v h : List ℕ) (n i : ℕ) → i ≤ n → entryPlace (n + 1) ≤ length b
     → length v ≡ entrySize → length h ≡ headerSize
     → b₁ ≡ put b (entryPlace (i + 1)) (entriesAt b i (n - i)) → b₂ ≡ put b₁ (entryPlace i) v → b₃ ≡ put b₂ 0 h
     → b₃ ≡ put b 0 (h ++ (entriesAt b 0 i ++ (v ++ entriesAt b i (n - i))))
@@ -53,7 +53,7 @@ insert-runs b b₁ b₂ b₃ v h n i k room l m e f g =
     (head-run b h (v ++ entriesAt b i (n - i)) i (omega arith) m)
 
 -- a deletion: the later entries one place down, then zeros, then the header
-pub delete-runs : (b b₁ b₂ b₃ h : List ℕ) (n i : ℕ) → i < n → entryPlace n ≤ length b → length h ≡ headerSize
+delete-runs : (b b₁ b₂ b₃ h : List ℕ) (n i : ℕ) → i < n → entryPlace n ≤ length b → length h ≡ headerSize
     → b₁ ≡ put b (entryPlace i) (entriesAt b (i + 1) (n - 1 - i))
     → b₂ ≡ put b₁ (entryPlace (n - 1)) (replicate entrySize 0) → b₃ ≡ put b₂ 0 h
     → b₃ ≡ put b 0 (h ++ (entriesAt b 0 i ++ (entriesAt b (i + 1) (n - 1 - i) ++ replicate entrySize 0)))

@@ -180,8 +180,9 @@ fn neighbours(register: &[u8], place: Place, at: usize) -> Gap
         (treeOf (linesOf (now (register .entry)))) (spotOf (whereOf place) at (treeOf (linesOf (now (register .entry))))) ⌝ }
 {
     let own = own_place(place, at);
-    let other = search::nearest(register, own, upward(place));
-    if upward(place) {
+    let up = upward(place);
+    let other = search::nearest(register, own, up);
+    if up {
         return Gap {
             left: own,
             right: other,

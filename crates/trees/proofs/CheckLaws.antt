@@ -42,7 +42,10 @@ module _ {A : Type 0} (Code : Digits → Type 0) (st en ps : A → Digits) where
         let a = h .children in
         let b = h .next in
         record {
-          rising = (i .above, rising-join (st x) (en x) r (tour st en c) (tour st en s) (below-some (st x) (en x) (i .inner)) (a .rising) (b .rising));
+          rising = (
+            i .above,
+            rising-join (st x) (en x) r (tour st en c) (tour st en s) (below-some (st x) (en x) (i .inner)) (a .rising) (b .rising),
+          );
           coded = (i .start-code, all-join Code (tour st en c) (tour st en s) (en x) (a .coded) (i .end-code) (b .coded));
           parented = (i .parented, a .parented, b .parented);
           height = (i .deep, a .height, b .height);

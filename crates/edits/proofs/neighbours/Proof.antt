@@ -26,19 +26,16 @@ nearest-requires c κs =
           (a .pre .1 .0)),
     )
 
-upward-requires-2 : tie.Need-upward-requires-2
-upward-requires-2 c κs = search needs
-
 returns : tie.Need-returns
 returns c =
-    let n = c .before .before in
+    let n = c .before in
     let o = n .before .before in
     let a = o .before .before in
     let b = a .args .register .now in
     let w = whereOf (a .args .place) in
     let i = a .args .at in
     let h = a .pre .1 .0 in
-    let u = sym (c .before .upward2 .ensures) ∙ c .if1 .taken in (
+    let u = sym (n .before .upward .ensures) ∙ c .if1 .taken in (
       (subst (CodeAt b) (sym (o .own-place .ensures)) (own-at b (a .pre .0) w i h), n .nearest .ensures .0),
       (
         ap (codeAt b) (o .own-place .ensures) ∙ own-left b (a .pre .0) w i h u,
@@ -49,14 +46,14 @@ returns c =
 
 returns-2 : tie.Need-returns-2
 returns-2 c =
-    let n = c .before .before in
+    let n = c .before in
     let o = n .before .before in
     let a = o .before .before in
     let b = a .args .register .now in
     let w = whereOf (a .args .place) in
     let i = a .args .at in
     let h = a .pre .1 .0 in
-    let u = sym (c .before .upward2 .ensures) ∙ c .if1 .left in (
+    let u = sym (n .before .upward .ensures) ∙ c .if1 .left in (
       (n .nearest .ensures .0, subst (CodeAt b) (sym (o .own-place .ensures)) (own-at b (a .pre .0) w i h)),
       (
         other-left b (a .pre .0) w i h (a .pre .1 .1) (n .nearest .result) _ _ (n .before .upward .ensures) (o .own-place .ensures) u
@@ -72,6 +69,5 @@ neighbours-spec =
     own-place-requires
     upward-requires
     nearest-requires
-    upward-requires-2
     returns
     returns-2)
