@@ -7,9 +7,9 @@ use native.Mathlib.Nat.{pow-succ', mul-left-comm, one-mul, div-eq-of-lt}
 use native.Mathlib.Omega.{arith}
 use lib.Bits.{bitAnd, bitOr, and-step, or-step, or-shr, and-zero-r, or-block, or-zero-r}
 use lib.Count.{trailingZeros, under}
-use lib.Dec.{eqb, leb}
+use lib.Dec.{eqb, leb, ltb}
 use lib.Pow.{shr-shr, pow-add, pow-pos, pow-mono, shl-exact}
-use borrow.Author.Tests.{eq-eqb, ne-eqb, eqb-true, eqb-false, lt-leb, le-leb}
+use borrow.Author.Tests.{eq-eqb, ne-eqb, eqb-true, eqb-false, lt-leb, le-leb, lt-ltb, le-ltb}
 use Rattle.codes.specs.Words.{full, ended}
 
 -- The highest digit d of a number, above m digits l.
@@ -143,7 +143,7 @@ twice zero = zero
 twice (suc n) = suc (suc (twice n))
 
 -- the places below the last digit that is not zero, of n digits
-abbrev pub low : ℕ → ℕ → ℕ
+abbrev low : ℕ → ℕ → ℕ
 low n v = trailingZeros (twice n) v / 2 * 2
 
 no-bits : (a b d : ℕ) → d ≡ a + 2 * b → d ≡ 0 → (a ≡ 0) × (b ≡ 0)
@@ -167,6 +167,14 @@ under-none (suc a) b v h = refl
 low-none : (n v : ℕ) → (v % 4 ≡ 0 → ⊥) → low (suc n) v ≡ 0
 unfolding trailingZeros
 low-none n v h = under-none (v % 2) (v / 2 % 2) (trailingZeros (twice n) (v / 2 / 2)) (λ z. h (two-bits v ∙ z))
+
+-- the lowest digit is zero where two places at least are
+pub zeros-last : (v : ℕ) → ltb 1 (trailingZeros 64 v) ≡ eqb (v % 4) 0
+zeros-last v = go (eqb (v % 4) 0) refl
+  where
+    go : (s : Bool) → eqb (v % 4) 0 ≡ s → ltb 1 (trailingZeros 64 v) ≡ s
+    go true e = lt-ltb 1 (trailingZeros 64 v) (omega (arith, zeros-more 62 v (eqb-true (v % 4) 0 e)))
+    go false e = le-ltb 1 (trailingZeros 64 v) (omega (arith, low-none 31 v (eqb-false (v % 4) 0 e)))
 
 -- ones below place t, and two places more
 ones-more : (t : ℕ) → 2 ^ (2 + t) - 1 ≡ (2 ^ t - 1) * 4 + 3
@@ -205,22 +213,25 @@ ends (suc n) v k = ends-step n v (eqb (v % 4) 0) refl (ends n (v / 4) (rest-lt n
 pub one-up : (t : ℕ) → t < 64 → 1 * 2 ^ t % 18446744073709551616 ≡ 2 ^ t
 one-up t h = shl-exact {a = 1} 1 t 64 (omega arith) (omega arith) ∙ one-mul (2 ^ t)
 
--- a word with its low digits made ones is full, or the code does not end in it
-pub ended-full : (v t : ℕ) (r : Bool) → v < 2 ^ 64 → t ≡ low 32 v → t < 64 → 1 < v / 2 ^ t % 4
-    → r ≡ full 32 (bitOr v (1 * 2 ^ t % 18446744073709551616 - 1)) → r ≡ ended 32 v
-ended-full v t r h e k g f =
-    let w = rw (← e) at (ends 32 v h) in
-    rw (one-up t k) at f ∙ sym (rw (le-leb 2 (v / 2 ^ t % 4) (omega arith)) at w)
+-- a word with z low zeros: with its low digits made ones it is full, or the code does not end in it
+module _ (v z : ℕ) (h : v < 2 ^ 64) (e : z ≡ trailingZeros 64 v) where
+  -- the place of the last digit that is not zero
+  abbrev pub last : ℕ
+  last = z / 2 * 2
 
-pub ended-low : (v t : ℕ) → v < 2 ^ 64 → t ≡ low 32 v → v / 2 ^ t % 4 ≤ 1 → false ≡ ended 32 v
-ended-low v t h e g =
-    let w = rw (← e) at (ends 32 v h) in
-    sym (rw (lt-leb 2 (v / 2 ^ t % 4) (omega arith)) at w)
+  ends-last : Ends 32 v last
+  ends-last = let f : low 32 v ≡ last = ap (λ (n : ℕ). n / 2 * 2) (sym e) in rw f at (ends 32 v h)
 
-pub ended-none : (v : ℕ) → v < 2 ^ 64 → 64 ≤ trailingZeros 64 v → false ≡ ended 32 v
-ended-none v h g =
-    let t : ℕ = low 32 v in
-    let k : 64 ≤ t = omega arith in
-    let p : 2 ^ 64 ≤ 2 ^ t = pow-mono k in
-    let z : v / 2 ^ t ≡ 0 = div-eq-of-lt (omega arith) in
-    ended-low v t h refl (omega arith)
+  pub ended-full : (r : Bool) → last < 64 → 1 < v / 2 ^ last % 4 → r ≡ full 32 (bitOr v (1 * 2 ^ last % 18446744073709551616 - 1))
+      → r ≡ ended 32 v
+  ended-full r k g f = rw (one-up last k) at f ∙ sym (rw (le-leb 2 (v / 2 ^ last % 4) (omega arith)) at ends-last)
+
+  pub ended-low : v / 2 ^ last % 4 ≤ 1 → false ≡ ended 32 v
+  ended-low g = sym (rw (lt-leb 2 (v / 2 ^ last % 4) (omega arith)) at ends-last)
+
+  pub ended-none : 64 ≤ z → false ≡ ended 32 v
+  ended-none g =
+      let k : 64 ≤ last = omega arith in
+      let p : 2 ^ 64 ≤ 2 ^ last = pow-mono k in
+      let n : v / 2 ^ last ≡ 0 = div-eq-of-lt (omega arith) in
+      ended-low (omega arith)

@@ -43,6 +43,30 @@ module _ (p : Packer) (d n : ℕ) (small : d < 4) (o : Open p) where
   pub after : (k : ℕ) → k < 4 → p .count % 4 ≡ k → n ≡ begun k (p .pending) + d * 4 ^ (3 - k) → (next ≡ pushed p d) × Open next
   after k l e h = (made p d k n e h, open-next k l e h)
 
+-- the byte that is gone on with, in either case of the test
+pub begun-new : (k v n : ℕ) → k ≡ 0 → n ≡ 0 → n ≡ begun k v
+begun-new k v n e h = rw e h
+
+pub begun-on : (k v n : ℕ) → (k ≡ 0 → ⊥) → n ≡ v → n ≡ begun k v
+begun-on zero v n e h = absurd (e refl)
+begun-on (suc k) v n e h = h
+
+-- a digit shifted to its place, and the sum that is stored
+pub shifted : (d k : ℕ) → d < 4 → k < 4 → d * 2 ^ (6 - k * 2) % 256 ≡ d * 4 ^ (3 - k)
+shifted d zero h l = omega arith
+shifted d (suc zero) h l = omega arith
+shifted d (suc (suc zero)) h l = omega arith
+shifted d (suc (suc (suc zero))) h l = omega arith
+shifted d (suc (suc (suc (suc k)))) h l = absurd (omega arith)
+
+pub fits-byte : (p : Packer) (d k : ℕ) → d < 4 → k < 4 → p .pending < 256 → p .count % 4 ≡ k → Open p
+    → begun k (p .pending) + d * 4 ^ (3 - k) < 256
+fits-byte p d zero h l b e o = omega arith
+fits-byte p d (suc zero) h l b e o = omega (arith, open-at p 1 e (λ z. omega arith) o)
+fits-byte p d (suc (suc zero)) h l b e o = omega (arith, open-at p 2 e (λ z. omega arith) o)
+fits-byte p d (suc (suc (suc zero))) h l b e o = omega (arith, open-at p 3 e (λ z. omega arith) o)
+fits-byte p d (suc (suc (suc (suc k)))) h l b e o = absurd (omega arith)
+
 -- the digits of a list pushed one after the other
 unfoldable pub pushedAll : Packer → Digits → Packer
 pushedAll p [] = p

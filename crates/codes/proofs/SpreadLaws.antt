@@ -2,7 +2,7 @@
 -- Assumes nothing.
 use mathlib.Core.Path.{_≡_, refl, sym, ap, _∙_}
 use mathlib.Core.List.{List, [], _∷_, _++_, append-nil, append-assoc}
-use Prim.Native.Nat.{ℕ, zero, suc, _+_, _-_, _*_, _/_, _%_, _≤_, _<_, compare, Ordering, Ordering·lt, Ordering·eq, Ordering·gt}
+use Prim.Native.Nat.{ℕ, zero, suc, _+_, _-_, _*_, _/_, _%_, _≤_, _<_, _^_, compare, Ordering, Ordering·lt, Ordering·eq, Ordering·gt}
 use native.Mathlib.Numerals.{add-one}
 use native.Mathlib.Omega.{arith}
 use lib.ListN.{length, take, drop, getD, set, length-map, length-append, drop-of-length-le}
@@ -93,6 +93,14 @@ slot-spread (a ∷ b) (suc (suc (suc zero))) k h e = ap (λ (j : ℕ). getD (qua
 slot-spread (a ∷ b) (suc (suc (suc (suc i)))) k h e =
     let q : suc (suc (suc (suc i))) / 4 ≡ suc (i / 4) = omega arith in
     ap (λ (j : ℕ). getD (quads (getD (a ∷ b) j 0)) k 0) q ∙ slot-spread b i k (omega arith) (omega arith)
+
+-- a byte shifted down to one of its digits
+pub shifted-down : (a k : ℕ) → a < 256 → k < 4 → a / 2 ^ (6 - k * 2) % 4 ≡ getD (quads a) k 0
+shifted-down a zero h l = omega arith
+shifted-down a (suc zero) h l = refl
+shifted-down a (suc (suc zero)) h l = refl
+shifted-down a (suc (suc (suc zero))) h l = omega arith
+shifted-down a (suc (suc (suc (suc k)))) h l = absurd (omega arith)
 
 pub spread-length : (b : List ℕ) → length (spread b) ≡ 4 * length b
 spread-length [] = refl

@@ -2,6 +2,7 @@
 ghost use mathlib.Core.Path.{_≡_};
 ghost use mathlib.Core.Bool.{_&&_};
 ghost use Prim.Native.Nat.{_+_, _≤_, _<_};
+ghost use lib.Count.{trailingZeros};
 ghost use lib.ListN.{length};
 ghost use Rattle.digits.specs.Order.{below?};
 ghost use Rattle.codes.specs.Code.{fieldSize};
@@ -50,7 +51,14 @@ fn full_word(word: u64) -> bool
 fn end_word(word: u64) -> bool
     ensures { λ r. ⌜ r ≡ ended 32 word ⌝ }
 {
-    let zeros = u64::trailing_zeros(word);
+    end_above(word, u64::trailing_zeros(word))
+}
+
+// A code ends in this word, above its low zeros.
+fn end_above(word: u64, zeros: u32) -> bool
+    requires { ⌜ zeros ≡ trailingZeros 64 word ⌝ }
+    ensures { λ r. ⌜ r ≡ ended 32 word ⌝ }
+{
     if zeros < 64 {
         let low = zeros / 2 * 2;
         if 1 < (word >> low) % 4 {
@@ -84,10 +92,11 @@ fn packed(a: u64, b: u64, c: u64, d: u64) -> bool
         }
         return also(end_word(c), also(full_word(b), full_word(a)));
     }
+    let zeros = u64::trailing_zeros(d);
     also(
-        d % 4 == 0,
+        1 < zeros,
         also(
-            end_word(d),
+            end_above(d, zeros),
             also(full_word(c), also(full_word(b), full_word(a))),
         ),
     )

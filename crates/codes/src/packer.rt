@@ -25,17 +25,11 @@ impl Packer {
         ensures pushed { λ r. ⌜ r ≡ pushed self digit ⌝ }
         ensures open { λ r. ⌜ Open r ⌝ }
     {
-        let pending = self.pending;
-        let count = self.count;
-        let next = match count % 4 {
-            0 => digit * 64,
-            1 => pending + digit * 16,
-            2 => pending + digit * 4,
-            _ => pending + digit,
-        };
+        let place = self.count % 4;
+        let begun = if place == 0 { 0 } else { self.pending };
         Packer {
-            pending: next,
-            count: count + 1,
+            pending: begun + (digit << (6 - place * 2)),
+            count: self.count + 1,
         }
     }
 }

@@ -151,13 +151,7 @@ fn slot(field: &[u8], i: usize) -> u8
     requires inside { ⌜ i < 4 * length (now field) ⌝ }
     ensures digit { λ r. ⌜ r ≡ getD (spread (now (field .entry))) i 0 ⌝ }
 {
-    let byte = field[i / 4];
-    match i % 4 {
-        0 => byte / 64,
-        1 => byte / 16 % 4,
-        2 => byte / 4 % 4,
-        _ => byte % 4,
-    }
+    (field[i / 4] >> (6 - i % 4 * 2)) % 4
 }
 
 // The digits of a field up to its separator.

@@ -14,7 +14,7 @@ use Rattle.registers.specs.Entries.{codeAt}
 use Rattle.registers.specs.Sound.{lineAt, linesFrom, CodeAt}
 use Rattle.registers.specs.Questions.{countOf, linesOf, registerSound?}
 use Rattle.edits.specs.Search.{outerPlace}
-use Rattle.registers.proofs.SoundLaws.{SoundAt, label-codes}
+use Rattle.registers.proofs.SoundLaws.{SoundAt, sound-at, has-place}
 use Rattle.registers.proofs.RowLaws.{lines-next, line-start, line-end, line-parent}
 use Rattle.registers.proofs.QuestionLaws.{Sized, sized→, sized-entries, parts-of, labels-sound}
 
@@ -24,7 +24,7 @@ sized-of b e = sized→ b (parts-of b e .sized)
 
 module _ (b : List ℕ) (e : registerSound? b ≡ true) (i : ℕ) (h : i < countOf b) where
   pub codes-at : SoundAt b i
-  codes-at = label-codes b (countOf b) i (sized-entries b (sized-of b e)) (h, labels-sound b i e h)
+  codes-at = sound-at b i (has-place b (countOf b) i (sized-entries b (sized-of b e)) h) (labels-sound b i e h)
 
   pub start-of : lineAt b i .start ≡ codeAt b (startPlace i)
   start-of = line-start b i (labels-sound b i e h)

@@ -32,8 +32,9 @@ use Rattle.trees.proofs.SearchLaws.{starts-all}
 use Rattle.registers.specs.Layout.{mostEntries, zeroAt, headerSize, entryPlace, identityAt, startPlace, endPlace}
 use Rattle.registers.specs.Entries.{entryAt, codeAt}
 use Rattle.registers.specs.Holds.{identities}
-use Rattle.registers.specs.Sound.{soundLabel?, lineAt, linesFrom, tree?, HasEntries}
+use Rattle.registers.specs.Sound.{soundLabel?, soundLabels?, lineAt, linesFrom, tree?, HasEntries}
 use Rattle.registers.specs.Questions.{countOf, linesOf, sized?, registerSound?, foundFrom, foundIn, aboveEntry?, depthIn, placeAs, placeAnswer, depthAs, depthAnswer, distanceAs, distanceAnswer}
+use Rattle.registers.proofs.SoundLaws.{labels-all}
 use Rattle.registers.proofs.RowLaws.{line-start, line-end, lines-length, lines-next}
 use Rattle.registers.proofs.BytesLaws.{coded-sound}
 use Rattle.registers.proofs.TreeLaws.{tree-lined}
@@ -151,15 +152,27 @@ identity-next b all i v h e f =
     rw (add-one i, take-suc-set all i v h, f, e)
     (sym (identities-more b i 0 ∙ ap (λ (k : ℕ). identities (linesFrom b 0 i) ++ (lineAt b k .name .identity ∷ [])) z))
 
--- every label of a sound register is sound
-pub labels-sound : (b : List ℕ) (i : ℕ) → registerSound? b ≡ true → i < countOf b → soundLabel? b i ≡ true
-labels-sound b i e h =
-    let t = tree-lined b (countOf b) (parts-of b e .tree) in
+-- every label of a tree is sound
+tree-sound : (b : List ℕ) (n i : ℕ) → tree? b n ≡ true → i < n → soundLabel? b i ≡ true
+tree-sound b n i e h =
+    let t = tree-lined b n e in
     let a = subst (All (λ (u : Entry Name). IsCode (u .start))) (t .entries) (starts-all IsCode (t .tree) (t .sound .coded)) in
     let d : Entry Name = lineAt b 0 in
+    let z : 0 + i ≡ i = omega arith in
     coded-sound b i
-    (subst (λ (u : Entry Name). IsCode (u .start)) (line-at b (countOf b) 0 i d h ∙ ap (lineAt b) (let z : 0 + i ≡ i = omega arith in z))
-    (all-at (λ (u : Entry Name). IsCode (u .start)) (linesOf b) i d a (rw (lines-length b 0 (countOf b)) h)))
+    (subst (λ (u : Entry Name). IsCode (u .start)) (line-at b n 0 i d h ∙ ap (lineAt b) z)
+    (all-at (λ (u : Entry Name). IsCode (u .start)) (linesFrom b 0 n) i d a (rw (lines-length b 0 n) h)))
+
+pub labels-sound : (b : List ℕ) (i : ℕ) → registerSound? b ≡ true → i < countOf b → soundLabel? b i ≡ true
+labels-sound b i e h = tree-sound b (countOf b) i (parts-of b e .tree) h
+
+-- lines whose labels are not all sound are no tree's
+pub unsound-tree : (b : List ℕ) (n : ℕ) → soundLabels? b n ≡ false → false ≡ tree? b n
+unsound-tree b n e = go (tree? b n) refl
+  where
+    go : (t : Bool) → tree? b n ≡ t → false ≡ t
+    go true g = sym e ∙ labels-all b n (λ i h. tree-sound b n i g h)
+    go false g = refl
 
 -- looking for an identity
 abbrev pub FoundAt : List ℕ → ℕ → ℕ → Found

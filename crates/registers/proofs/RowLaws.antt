@@ -20,8 +20,8 @@ use Rattle.registers.specs.declared.walk.Walked.{Walked}
 use Rattle.registers.specs.declared.walk.Walked.the-variants.{To, Unsound}
 use Rattle.registers.specs.Layout.{startPlace, endPlace, parentPlace, HasPlace}
 use Rattle.registers.specs.Entries.{codeAt, entryAt}
-use Rattle.registers.specs.Sound.{soundLabel?, tree?, lineAt, linesFrom, entry?, placed, rowFrom, levels, childrenFrom, entryFrom}
-use Rattle.registers.proofs.SoundLaws.{sound-at}
+use Rattle.registers.specs.Sound.{soundLabel?, tree?, lineAt, linesFrom, entry?, placed, rowFrom, levels, childrenFrom, entryFrom, HasLabels}
+use Rattle.registers.proofs.SoundLaws.{sound-at, has-place, label-sound, label-codes}
 
 -- lines by their numbers
 pub lines-length : (b : List ℕ) (i m : ℕ) → length (linesFrom b i m) ≡ m
@@ -65,14 +65,7 @@ pub line-blank : (b : List ℕ) (i : ℕ) → soundLabel? b i ≡ false → line
 unfolding lineAt
 line-blank b i h = rw h refl
 
--- no digits are no code, and below any code
-and-false : (t : Bool) → (t && false) ≡ false
-and-false true = refl
-and-false false = refl
-
-blank-fails : (k : ℕ) (p l r : Digits) (u : Entry Name) → u .start ≡ [] → entry? k p l r u ≡ false
-blank-fails k p l r u e = rw e (and-false (ltb 0 k))
-
+-- a code has digits, and no digits are below it
 under-code : (x r : Digits) → IsCode r → under? x r ≡ below? x r
 under-code x [] c = absurd (c .formed)
 under-code x (d ∷ r) c = refl
@@ -82,7 +75,7 @@ nothing-below [] c = absurd (c .formed)
 nothing-below (d ∷ r) c = refl
 
 -- what is asked of a line whose label is sound
-pub entry-test : (b : List ℕ) (i k : ℕ) (p l r : Digits) → HasPlace b i → soundLabel? b i ≡ true → IsCode r
+entry-test : (b : List ℕ) (i k : ℕ) (p l r : Digits) → HasPlace b i → soundLabel? b i ≡ true → IsCode r
     → entry? k p l r (lineAt b i)
     ≡ (ltb 0 k && (below? l (codeAt b (startPlace i)) && (below? (codeAt b (endPlace i)) r && same? (codeAt b (parentPlace i)) p)))
 entry-test b i k p l r h t c =
@@ -122,32 +115,26 @@ module _ (b : List ℕ) (n k : ℕ) (p l r : Digits) (i : ℕ) (h : i < n) (c : 
   unfolding rowFrom
   row-is = ap (λ us. placed n (rowWalk starts ends entry? k p l r us)) (lines-next b n i h)
 
-  -- a line whose label is not sound is a fault
-  pub row-blank : soundLabel? b i ≡ false → Unsound ≡ rowFrom b n k p l r i
-  row-blank t =
-      let u : under? (x .start) r ≡ true = ap (λ z. under? z r) (line-blank b i t) ∙ under-code [] r c ∙ nothing-below r c in
-      sym (row-is ∙ ap (placed n) (row-bad starts ends entry? k p l r x xs u (blank-fails k p l r x (line-blank b i t))))
-
   module _ (t : soundLabel? b i ≡ true) where
     under-is : under? (x .start) r ≡ below? (codeAt b (startPlace i)) r
     under-is = ap (λ z. under? z r) (line-start b i t) ∙ under-code (codeAt b (startPlace i)) r c
 
     -- an entry that does not start below the right side ends the row
-    pub row-stops : below? (codeAt b (startPlace i)) r ≡ false → To i ≡ rowFrom b n k p l r i
+    row-stops : below? (codeAt b (startPlace i)) r ≡ false → To i ≡ rowFrom b n k p l r i
     row-stops f =
         let m : n - length (x ∷ xs) ≡ i = omega (arith, lines-length b (suc i) (n - suc i)) in
         sym (row-is ∙ ap (placed n) (row-out starts ends entry? k p l r x xs (under-is ∙ f)) ∙ ap To m)
 
     module _ (f : below? (codeAt b (startPlace i)) r ≡ true) where
       -- one that is not in its place is a fault
-      pub row-fails : entry? k p l r x ≡ false → rowFrom b n k p l r i ≡ Unsound
+      row-fails : entry? k p l r x ≡ false → rowFrom b n k p l r i ≡ Unsound
       row-fails o = row-is ∙ ap (placed n) (row-bad starts ends entry? k p l r x xs (under-is ∙ f) o)
 
       -- one in its place: the row goes on behind its children, or their fault is the row's
-      abbrev pub children : Rest (Entry Name)
+      abbrev children : Rest (Entry Name)
       children = rowWalk starts ends entry? (pred k) (x .start) (x .start) (x .end) xs
 
-      pub row-then : entry? k p l r x ≡ true
+      row-then : entry? k p l r x ≡ true
           → rowFrom b n k p l r i ≡ placed n (thenFrom children (λ us. rowWalk starts ends entry? k p (x .end) r us))
       row-then o = row-is ∙ ap (placed n) (row-on starts ends entry? k p l r x xs (under-is ∙ f) o)
 
@@ -164,8 +151,8 @@ pub record Went (b : List ℕ) (n parent depth : ℕ) (l : Digits) (i next : ℕ
   pub inside : next ≤ n
   pub same : childrenFrom b n parent depth l i ≡ childrenFrom b n parent depth (codeAt b (endPlace i)) next
 
-module _ (b : List ℕ) (n parent depth : ℕ) (l : Digits) (i : ℕ) (h : i < n) (c : IsCode (codeAt b (endPlace parent)))
-    (t : soundLabel? b i ≡ true) (f : below? (codeAt b (startPlace i)) (codeAt b (endPlace parent)) ≡ true) where
+-- line i among n lines with sound labels, in the row of children of another
+module _ (b : List ℕ) (n parent depth : ℕ) (l : Digits) (i : ℕ) (labels : HasLabels b n) (q : parent < n) (h : i < n) where
   abbrev k : ℕ
   k = levels depth
 
@@ -175,81 +162,90 @@ module _ (b : List ℕ) (n parent depth : ℕ) (l : Digits) (i : ℕ) (h : i < n
   abbrev r : Digits
   r = codeAt b (endPlace parent)
 
-  abbrev inner : Rest (Entry Name)
-  inner = children b n k p l r i h c t f
+  coded : IsCode r
+  coded = label-codes b n parent labels q .end-code
 
-  -- the children of the line are those of the entry
-  inner-is : childrenFrom b n i (depth + 1) (codeAt b (startPlace i)) (i + 1) ≡ placed n inner
-  unfolding rowFrom
-  inner-is = rw (add-one i, line-start b i t, line-end b i t, deeper depth) refl
+  label : soundLabel? b i ≡ true
+  label = label-sound b n i (labels .1) h
 
-  unfoldable onward : Rest (Entry Name) → Walked
-  onward m = placed n (thenFrom m (λ us. rowWalk starts ends entry? k p (lineAt b i .end) r us))
+  -- the row ends at an entry that does not start below its parent's end
+  pub row-ends : below? (codeAt b (startPlace i)) r ≡ false → To i ≡ childrenFrom b n parent depth l i
+  row-ends f = row-stops b n k p l r i h coded label f
 
-  went : (next : ℕ) (m : Rest (Entry Name)) → inner ≡ m → placed n m ≡ To next → childrenFrom b n parent depth l i ≡ onward m
-      → Went b n parent depth l i next
-  unfolding rowFrom onward
-  went next fault e g a = never g
-  went next (rest us) e g a =
-      let q = row-rest starts ends entry? (pred k) (lineAt b i .start) (lineAt b i .start) (lineAt b i .end)
-      (linesFrom b (suc i) (n - suc i)) us e in
-      let w : length (linesFrom b (suc i) (n - suc i)) ≡ n - suc i = lines-length b (suc i) (n - suc i) in
-      let v : n - length us ≡ next = to-is g in
-      let m : ℕ = length (linesFrom b (suc i) (n - suc i)) - length us in
-      let j : next ≡ suc i + m = omega (arith, q .0) in
-      let z : n - next ≡ n - suc i - m = omega (arith, q .0) in
-      let d : linesFrom b next (n - next) ≡ us = rw (z, j) (sym (lines-drop b m (suc i) (n - suc i)) ∙ q .1) in
-      record {
-        later = omega (arith, q .0);
-        inside = omega arith;
-        same = a ∙ rw (line-end b i t, ← d) refl;
-      }
+  module _ (f : below? (codeAt b (startPlace i)) r ≡ true) where
+    abbrev inner : Rest (Entry Name)
+    inner = children b n k p l r i h coded label f
 
-  pub row-to : (next : ℕ) → entryFrom b n parent depth l i ≡ To next → Went b n parent depth l i next
-  unfolding onward
-  row-to next g = go (entry? k p l r (lineAt b i)) refl g
-    where
-      go : (o : Bool) → entry? k p l r (lineAt b i) ≡ o
-          → cond o (childrenFrom b n i (depth + 1) (codeAt b (startPlace i)) (i + 1)) Unsound ≡ To next → Went b n parent depth l i next
-      go true o g = went next inner refl (sym inner-is ∙ g) (row-then b n k p l r i h c t f o)
-      go false o g = never g
+    -- the children of the line are those of the entry
+    inner-is : childrenFrom b n i (depth + 1) (codeAt b (startPlace i)) (i + 1) ≡ placed n inner
+    unfolding rowFrom
+    inner-is = rw (add-one i, line-start b i label, line-end b i label, deeper depth) refl
 
-  pub row-un : entryFrom b n parent depth l i ≡ Unsound → childrenFrom b n parent depth l i ≡ Unsound
-  unfolding onward
-  row-un g = go (entry? k p l r (lineAt b i)) refl g
-    where
-      stops : (m : Rest (Entry Name)) → placed n m ≡ Unsound → onward m ≡ Unsound
-      stops fault e = refl
-      stops (rest us) e = never (sym e)
+    unfoldable onward : Rest (Entry Name) → Walked
+    onward m = placed n (thenFrom m (λ us. rowWalk starts ends entry? k p (lineAt b i .end) r us))
 
-      go : (o : Bool) → entry? k p l r (lineAt b i) ≡ o
-          → cond o (childrenFrom b n i (depth + 1) (codeAt b (startPlace i)) (i + 1)) Unsound ≡ Unsound
-          → childrenFrom b n parent depth l i ≡ Unsound
-      go true o g = row-then b n k p l r i h c t f o ∙ stops inner (sym inner-is ∙ g)
-      go false o g = row-fails b n k p l r i h c t f o
+    went : (next : ℕ) (m : Rest (Entry Name)) → inner ≡ m → placed n m ≡ To next → childrenFrom b n parent depth l i ≡ onward m
+        → Went b n parent depth l i next
+    unfolding rowFrom onward
+    went next fault e g a = never g
+    went next (rest us) e g a =
+        let q = row-rest starts ends entry? (pred k) (lineAt b i .start) (lineAt b i .start) (lineAt b i .end)
+        (linesFrom b (suc i) (n - suc i)) us e in
+        let w : length (linesFrom b (suc i) (n - suc i)) ≡ n - suc i = lines-length b (suc i) (n - suc i) in
+        let v : n - length us ≡ next = to-is g in
+        let m : ℕ = length (linesFrom b (suc i) (n - suc i)) - length us in
+        let j : next ≡ suc i + m = omega (arith, q .0) in
+        let z : n - next ≡ n - suc i - m = omega (arith, q .0) in
+        let d : linesFrom b next (n - next) ≡ us = rw (z, j) (sym (lines-drop b m (suc i) (n - suc i)) ∙ q .1) in
+        record {
+          later = omega (arith, q .0);
+          inside = omega arith;
+          same = a ∙ rw (line-end b i label, ← d) refl;
+        }
 
--- the walk of an entry: too deep, not in its place, or its row of children
-module _ (b : List ℕ) (n parent depth : ℕ) (l : Digits) (i : ℕ) where
-  pub entry-deep : 63 < depth → Unsound ≡ entryFrom b n parent depth l i
-  entry-deep h = let z : levels depth ≡ 0 = omega arith in rw z refl
+    pub row-to : (next : ℕ) → entryFrom b n parent depth l i ≡ To next → Went b n parent depth l i next
+    unfolding onward
+    row-to next g = go (entry? k p l r (lineAt b i)) refl g
+      where
+        go : (o : Bool) → entry? k p l r (lineAt b i) ≡ o
+            → cond o (childrenFrom b n i (depth + 1) (codeAt b (startPlace i)) (i + 1)) Unsound ≡ To next → Went b n parent depth l i next
+        go true o g = went next inner refl (sym inner-is ∙ g) (row-then b n k p l r i h coded label f o)
+        go false o g = never g
 
-  module _ (h : HasPlace b i) (t : soundLabel? b i ≡ true) (c : IsCode (codeAt b (endPlace parent))) (s : depth ≤ 63) where
+    pub row-un : entryFrom b n parent depth l i ≡ Unsound → childrenFrom b n parent depth l i ≡ Unsound
+    unfolding onward
+    row-un g = go (entry? k p l r (lineAt b i)) refl g
+      where
+        stops : (m : Rest (Entry Name)) → placed n m ≡ Unsound → onward m ≡ Unsound
+        stops fault e = refl
+        stops (rest us) e = never (sym e)
+
+        go : (o : Bool) → entry? k p l r (lineAt b i) ≡ o
+            → cond o (childrenFrom b n i (depth + 1) (codeAt b (startPlace i)) (i + 1)) Unsound ≡ Unsound
+            → childrenFrom b n parent depth l i ≡ Unsound
+        go true o g = row-then b n k p l r i h coded label f o ∙ stops inner (sym inner-is ∙ g)
+        go false o g = row-fails b n k p l r i h coded label f o
+
+  -- the walk of an entry that is not too deep: its row of children, or a fault where it is not in its place
+  module _ (s : depth ≤ 63) where
     abbrev placed? : Bool
     placed? =
         below? l (codeAt b (startPlace i))
-        && (below? (codeAt b (endPlace i)) (codeAt b (endPlace parent)) && same? (codeAt b (parentPlace i))
-        (codeAt b (startPlace parent)))
+        && (below? (codeAt b (endPlace i)) r && same? (codeAt b (parentPlace i)) p)
 
-    entry-is : entry? (levels depth) (codeAt b (startPlace parent)) l (codeAt b (endPlace parent)) (lineAt b i) ≡ placed?
+    entry-is : entry? k p l r (lineAt b i) ≡ placed?
     entry-is =
-        entry-test b i (levels depth) (codeAt b (startPlace parent)) l (codeAt b (endPlace parent)) h t c
-        ∙ ap (λ (z : Bool). z && placed?) (lt-ltb 0 (levels depth) (omega arith))
+        entry-test b i k p l r (has-place b n i (labels .0) h) label coded
+        ∙ ap (λ (z : Bool). z && placed?) (lt-ltb 0 k (omega arith))
 
     pub entry-on : placed? ≡ true → childrenFrom b n i (depth + 1) (codeAt b (startPlace i)) (i + 1) ≡ entryFrom b n parent depth l i
     entry-on e = rw (entry-is, e) refl
 
     pub entry-no : placed? ≡ false → Unsound ≡ entryFrom b n parent depth l i
     entry-no e = rw (entry-is, e) refl
+
+pub entry-deep : (b : List ℕ) (n parent depth : ℕ) (l : Digits) (i : ℕ) → 63 < depth → Unsound ≡ entryFrom b n parent depth l i
+entry-deep b n parent depth l i h = let z : levels depth ≡ 0 = omega arith in rw z refl
 
 -- the tree test: the root's label, its parent start, and whether its children and theirs are all the rest
 module _ (b : List ℕ) (n : ℕ) (some : 0 < n) where
@@ -263,13 +259,13 @@ module _ (b : List ℕ) (n : ℕ) (some : 0 < n) where
   unfolding tree?
   tree-is = ap (treeWalk? starts ends entry? 64) first-line
 
-  pub tree-blank : soundLabel? b 0 ≡ false → false ≡ tree? b n
-  tree-blank t = sym (tree-is ∙ ap (λ (z : Bool). z && whole? inside) (blank-fails 64 [] [] [] (lineAt b 0) (line-blank b 0 t)))
+  module _ (labels : HasLabels b n) where
+    t : soundLabel? b 0 ≡ true
+    t = label-sound b n 0 (labels .1) some
 
-  module _ (h : HasPlace b 0) (t : soundLabel? b 0 ≡ true) where
     root-is : entry? 64 [] [] [] (lineAt b 0) ≡ same? (codeAt b (parentPlace 0)) []
     root-is =
-        let s = sound-at b 0 h t in
+        let s = label-codes b n 0 labels some in
         rw (
           line-start b 0 t,
           line-end b 0 t,

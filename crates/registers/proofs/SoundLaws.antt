@@ -1,13 +1,15 @@
 -- Laws of sound labels in a register: what their fields hold, and how two fields compare. Assumes nothing.
 use mathlib.Core.Path.{_≡_, refl, sym, ap, _∙_, subst}
 use mathlib.Core.Logic.{_⊎_, inl, inr}
-use mathlib.Core.Bool.{Bool, true, false, _&&_}
+use mathlib.Core.Bool.{Bool, true, false, _&&_, and-eq-true-iff}
 use mathlib.Core.List.{List, [], _∷_}
-use Prim.Native.Nat.{ℕ, _+_, _-_, _≤_, _<_}
+use Prim.Native.Nat.{ℕ, zero, suc, _+_, _-_, _≤_, _<_, compare, Ordering, Ordering·lt, Ordering·eq, Ordering·gt}
+use native.Mathlib.Numerals.{add-one}
 use native.Mathlib.Omega.{arith}
 use lib.ListN.{length, take, drop}
 use lib.Seq.{take-take, drop-drop}
 use Rattle.digits.specs.Order.{Digits, Below, below?}
+use Rattle.digits.proofs.OrderLaws.{Compared, lt, eq, gt, compared}
 use Rattle.numbers.proofs.PutLaws.{take-drop}
 use Rattle.codes.specs.Code.{fieldSize, IsCode}
 use Rattle.codes.specs.Field.{fieldOf}
@@ -19,7 +21,7 @@ use Rattle.labels.specs.Label.{labelSize, startAt, endAt, parentAt, fieldAt, co
 use Rattle.labels.proofs.LabelLaws.{sound→, held-code, held-below}
 use Rattle.registers.specs.Layout.{entryPlace, labelAt, startPlace, endPlace, parentPlace, HasPlace}
 use Rattle.registers.specs.Entries.{codeAt}
-use Rattle.registers.specs.Sound.{labelBytes, soundLabel?, CodeAt, SideAt, HasEntries, HasLabel}
+use Rattle.registers.specs.Sound.{labelBytes, soundLabel?, soundLabels?, CodeAt, SideAt, HasEntries, HasLabels}
 
 -- a part of a part of a list
 pub part-of : (b x : List ℕ) (p n k m : ℕ) → take n (drop p b) ≡ x → k + m ≤ n → take m (drop (p + k) b) ≡ take m (drop k x)
@@ -97,6 +99,11 @@ sides-same b f g x y h k d e =
     ap (λ (z : List ℕ). same? z g) (d ∙ h .field) ∙ ap (same? (fieldOf (codeAt b x))) (e ∙ k .field)
     ∙ same?-field (codeAt b x) (codeAt b y) (h .side) (k .side)
 
+-- a comparison of two fields by other names of their places
+pub below-at : (b : List ℕ) (t : Bool) (x y x₁ y₁ : ℕ) → t ≡ below? (codeAt b x) (codeAt b y) → x ≡ x₁ → y ≡ y₁
+    → t ≡ below? (codeAt b x₁) (codeAt b y₁)
+below-at b t x y x₁ y₁ e f g = rw (← f, ← g) e
+
 -- three tests in a row
 pub all-three : (a b c r : Bool) → a ≡ true → b ≡ true → r ≡ c → r ≡ (a && (b && c))
 all-three a b c r d e f = rw (d, e) f
@@ -110,12 +117,38 @@ second-fails a b c d e = rw (d, e) refl
 pub first-fails : (a b : Bool) → a ≡ false → false ≡ (a && b)
 first-fails a b d = rw d refl
 
--- a line among n has its place, and a sound label there its codes
+-- a line among n has its place
 pub has-place : (b : List ℕ) (n i : ℕ) → HasEntries b n → i < n → HasPlace b i
 has-place b n i h k = (omega arith, omega arith)
 
-pub label-codes : (b : List ℕ) (n i : ℕ) → HasEntries b n → HasLabel b n i → SoundAt b i
-label-codes b n i h k = sound-at b i (has-place b n i h (k .0)) (k .1)
+-- all labels are sound exactly where each is
+pub label-sound : (b : List ℕ) (n i : ℕ) → soundLabels? b n ≡ true → i < n → soundLabel? b i ≡ true
+label-sound b zero i e h = absurd (omega arith)
+label-sound b (suc n) i e h =
+    let both = and-eq-true-iff (soundLabels? b n) (soundLabel? b n) .0 e in
+    go (λ k. label-sound b n i (both .0) k) (both .1) (compare i n) (compared i n)
+  where
+    go : (i < n → soundLabel? b i ≡ true) → soundLabel? b n ≡ true → (o : Ordering) → Compared i n o → soundLabel? b i ≡ true
+    go before last Ordering·lt (lt k) = before k
+    go before last Ordering·eq (eq k) = subst (λ j. soundLabel? b j ≡ true) (sym k) last
+    go before last Ordering·gt (gt k) = absurd (omega arith)
+
+pub labels-all : (b : List ℕ) (n : ℕ) → ((i : ℕ) → i < n → soundLabel? b i ≡ true) → soundLabels? b n ≡ true
+labels-all b zero h = refl
+labels-all b (suc n) h = rw (labels-all b n (λ i k. h i (omega arith)), h n (omega arith)) refl
+
+pub labels-next : (b : List ℕ) (n : ℕ) → soundLabels? b n ≡ true → soundLabel? b n ≡ true → soundLabels? b (n + 1) ≡ true
+labels-next b n e f = rw (add-one n, e, f) refl
+
+pub labels-fail : (b : List ℕ) (n i : ℕ) → i < n → soundLabel? b i ≡ false → false ≡ soundLabels? b n
+labels-fail b n i h e = go (soundLabels? b n) refl
+  where
+    go : (t : Bool) → soundLabels? b n ≡ t → false ≡ t
+    go true f = sym e ∙ label-sound b n i f h
+    go false f = refl
+
+pub label-codes : (b : List ℕ) (n i : ℕ) → HasLabels b n → i < n → SoundAt b i
+label-codes b n i h k = sound-at b i (has-place b n i (h .0) k) (label-sound b n i (h .1) k)
 
 -- an empty field by its kind
 abbrev emptyKind : Kind → Bool

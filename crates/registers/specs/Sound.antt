@@ -3,7 +3,7 @@ use mathlib.Core.Path.{_≡_}
 use mathlib.Core.Logic.{_⊎_}
 use mathlib.Core.Bool.{Bool, true, cond, _&&_}
 use mathlib.Core.List.{List, [], _∷_}
-use Prim.Native.Nat.{ℕ, zero, suc, _+_, _-_, _≤_, _<_}
+use Prim.Native.Nat.{ℕ, zero, suc, _+_, _-_, _≤_}
 use lib.Dec.{ltb}
 use lib.ListN.{length, take, drop}
 use Rattle.digits.specs.Order.{Digits, below?}
@@ -24,6 +24,11 @@ labelBytes bytes i = take labelSize (drop (entryPlace i + labelAt) bytes)
 
 abbrev pub soundLabel? : List ℕ → ℕ → Bool
 soundLabel? bytes i = sound? (labelBytes bytes i)
+
+-- the labels of the first n entries are sound
+abbrev pub soundLabels? : List ℕ → ℕ → Bool
+soundLabels? bytes zero = true
+soundLabels? bytes (suc n) = soundLabels? bytes n && soundLabel? bytes n
 
 -- line i: the entry as it is read; without codes where its label is not sound
 unfoldable pub lineAt : List ℕ → ℕ → Entry Name
@@ -84,6 +89,6 @@ pub record SideAt (bytes : List ℕ) (at : ℕ) : Type 0 where
 abbrev pub HasEntries : List ℕ → ℕ → Type 0
 HasEntries bytes n = (n ≤ mostEntries) × (entryPlace n ≤ length bytes)
 
--- line i stands among n, and its label is sound
-abbrev pub HasLabel : List ℕ → ℕ → ℕ → Type 0
-HasLabel bytes n i = (i < n) × (soundLabel? bytes i ≡ true)
+-- n entries with sound labels stand in the buffer
+abbrev pub HasLabels : List ℕ → ℕ → Type 0
+HasLabels bytes n = HasEntries bytes n × (soundLabels? bytes n ≡ true)

@@ -8,7 +8,7 @@ ghost use Rattle.codes.specs.Reading.{same?};
 ghost use Rattle.codes.specs.Spread.{Held, Short};
 ghost use Rattle.registers.specs.Layout.{mostEntries, startPlace, endPlace, parentPlace, HasPlace};
 ghost use Rattle.registers.specs.Entries.{codeAt};
-ghost use Rattle.registers.specs.Sound.{labelBytes, soundLabel?, lineAt, tree?, childrenFrom, entryFrom, CodeAt, SideAt, HasEntries, HasLabel};
+ghost use Rattle.registers.specs.Sound.{labelBytes, soundLabel?, soundLabels?, lineAt, tree?, childrenFrom, entryFrom, CodeAt, SideAt, HasEntries, HasLabels};
 use crate::DEEPEST;
 use crate::ENTRY_LABEL;
 use crate::entry_place;
@@ -32,7 +32,7 @@ pub(crate) fn tree(register: &[u8], n: usize) -> bool
     requires some { ⌜ 0 < n ⌝ }
     ensures tree { λ r. ⌜ r ≡ tree? (now (register .entry)) n ⌝ }
 {
-    if !sound_label(register, 0) {
+    if !sound_labels(register, n) {
         return false;
     }
     if !orphan(register) {
@@ -42,6 +42,21 @@ pub(crate) fn tree(register: &[u8], n: usize) -> bool
         Walked::To(end) => end == n,
         Walked::Unsound => false,
     }
+}
+
+// The labels of the first n entries are sound.
+fn sound_labels(register: &[u8], n: usize) -> bool
+    requires entries { ⌜ HasEntries (now register) n ⌝ }
+    ensures sound { λ r. ⌜ r ≡ soundLabels? (now (register .entry)) n ⌝ }
+{
+    let mut i = 0;
+    while i < n {
+        if !sound_label(register, i) {
+            return false;
+        }
+        i += 1;
+    }
+    true
 }
 
 // The first entry's parent start is empty.
@@ -66,9 +81,8 @@ pub(crate) fn entry(
     parent: usize,
     depth: u32,
 ) -> Walked
-    requires entries { ⌜ HasEntries (now register) n ⌝ }
-    requires label { ⌜ HasLabel (now register) n at ⌝ }
-    requires parent { ⌜ HasLabel (now register) n parent ⌝ }
+    requires labels { ⌜ HasLabels (now register) n ⌝ }
+    requires places { ⌜ (at < n) × (parent < n) ⌝ }
     requires low { ⌜ CodeAt (now register) low ⌝ }
     ensures walked { λ r. ⌜ r ≡ entryFrom (now (register .entry)) n parent depth (codeAt (now (register .entry)) low) at ⌝ }
 {
@@ -83,18 +97,14 @@ pub(crate) fn entry(
 
 // The row of children of an entry, from an entry on: one that does not start below the parent's end is no child.
 pub(crate) fn row(register: &[u8], n: usize, at: usize, parent: usize, depth: u32) -> Walked
-    requires entries { ⌜ HasEntries (now register) n ⌝ }
-    requires parent { ⌜ HasLabel (now register) n parent ⌝ }
-    requires place { ⌜ at ≤ n ⌝ }
+    requires labels { ⌜ HasLabels (now register) n ⌝ }
+    requires places { ⌜ (at ≤ n) × (parent < n) ⌝ }
     ensures walked { λ r. ⌜ r
         ≡ childrenFrom (now (register .entry)) n parent depth (codeAt (now (register .entry)) (startPlace parent)) at ⌝ }
 {
     let mut low = start_place(parent);
     let mut i = at;
     while i < n {
-        if !sound_label(register, i) {
-            return Walked::Unsound;
-        }
         if !fields_below(register, start_place(i), end_place(parent)) {
             return Walked::To(i);
         }

@@ -1,7 +1,9 @@
 -- The words from the last to the first: zero, or the end of a code with full words before it.
 -- Assumes nothing.
+use mathlib.Core.Path.{refl}
 use borrow.Author.Tests.{eq-eqb, ne-eqb}
 use borrow.Author.Needs.{needs}
+use Rattle.codes.proofs.DigitLaws.{zeros-last}
 use Rattle.codes.proofs.field.packed.Statement.{statement}
 use Rattle.codes.proofs.field.packed.Tie as tie
 
@@ -47,8 +49,8 @@ returns-3 c =
     let at = c .before .before .before .before .before in
     rw (eq-eqb _ _ (at .before .if1 .taken), ne-eqb _ _ (at .if2 .left)) cc
 
-end-word-requires-4 : tie.Need-end-word-requires-4
-end-word-requires-4 c κs = search needs
+end-above-requires : tie.Need-end-above-requires
+end-above-requires c κs = refl
 
 full-word-requires-4 : tie.Need-full-word-requires-4
 full-word-requires-4 c κs = search needs
@@ -77,7 +79,8 @@ returns-4 c =
     let words = both .before .before .before in
     rw (
       ne-eqb _ _ (words .before .before .if1 .left),
-      ← words .before .end-word4 .ensures,
+      ← zeros-last (words .before .before .before .args .d),
+      ← words .before .end-above .ensures,
       ← words .full-word4 .ensures,
       ← both .before .before .full-word5 .ensures,
       ← both .before .full-word6 .ensures,
@@ -103,7 +106,7 @@ packed-spec =
     also-requires-2
     also-requires-3
     returns-3
-    end-word-requires-4
+    end-above-requires
     full-word-requires-4
     full-word-requires-5
     full-word-requires-6

@@ -1,12 +1,10 @@
 -- `in_place` meets its contract: three tests in a row, on fields of sound labels. Assumes nothing.
-use mathlib.Core.Path.{_≡_, sym, ap, _∙_, subst}
-use Prim.Native.Nat.{ℕ}
+use mathlib.Core.Path.{_≡_, refl, sym, _∙_, subst}
 use Rattle.digits.specs.Order.{below?}
-use Rattle.codes.specs.Reading.{same?}
-use Rattle.registers.specs.Layout.{startPlace, endPlace, parentPlace}
+use Rattle.registers.specs.Layout.{startPlace, endPlace}
 use Rattle.registers.specs.Entries.{codeAt}
 use Rattle.registers.specs.Sound.{CodeAt, SideAt}
-use Rattle.registers.proofs.SoundLaws.{sound-at, all-three, second-fails, first-fails}
+use Rattle.registers.proofs.SoundLaws.{sound-at, below-at, all-three, second-fails, first-fails}
 use borrow.Author.Needs.{needs}
 use Rattle.registers.proofs.walk.in_place.Statement.{statement}
 use Rattle.registers.proofs.walk.in_place.Tie as tie
@@ -53,45 +51,37 @@ fields-same-requires c κs =
           (p .start-side),
     )
 
+-- the first two tests, by the entry's and its parent's places
+first : (f : tie.After-fields-below) →
+    let a = f .before .before .before .args in
+    let b = a .register .now in
+    f .fields-below .result ≡ below? (codeAt b (a .low)) (codeAt b (startPlace (a .at)))
+first f =
+    let a = f .before .before .before .args in
+    below-at (a .register .now) _ (a .low) _ _ _ (f .fields-below .ensures) refl (f .before .start-place .ensures)
+
+second : (g : tie.After-fields-below2) →
+    let a = g .before .before .before .before .before .before .before .args in
+    let b = a .register .now in
+    g .fields-below2 .result ≡ below? (codeAt b (endPlace (a .at))) (codeAt b (endPlace (a .parent)))
+second g = below-at _ _ _ _ _ _ (g .fields-below2 .ensures) (g .before .before .end-place .ensures) (g .before .end-place2 .ensures)
+
 returns : tie.Need-returns
 returns c =
     let g = c .before .before .before .before in
     let f = g .before .before .before .before in
-    let a = f .before .before .before in
-    let b = a .args .register .now in
-    let first : below? (codeAt b (a .args .low)) (codeAt b (startPlace (a .args .at))) ≡ _ =
-    sym (f .fields-below .ensures ∙ ap (λ (k : ℕ). below? (codeAt b (a .args .low)) (codeAt b k)) (f .before .start-place .ensures)) in
-    let second : below? (codeAt b (endPlace (a .args .at))) (codeAt b (endPlace (a .args .parent))) ≡ _ =
-    sym (g .fields-below2 .ensures ∙ ap (λ (k : ℕ). below? (codeAt b k) (codeAt b (g .before .end-place2 .result)))
-    (g .before .before .end-place .ensures)
-    ∙ ap (λ (k : ℕ). below? (codeAt b (endPlace (a .args .at))) (codeAt b k)) (g .before .end-place2 .ensures)) in
-    all-three _ _ _ _ (first ∙ g .before .before .before .if1 .taken) (second ∙ c .before .before .before .if2 .taken)
-    (c .fields-same .ensures ∙ ap (λ (k : ℕ). same? (codeAt b k) (codeAt b (c .before .start-place2 .result)))
-    (c .before .before .parent-place .ensures)
-    ∙ ap (λ (k : ℕ). same? (codeAt b (parentPlace (a .args .at))) (codeAt b k)) (c .before .start-place2 .ensures))
+    let b = f .before .before .before .args .register .now in
+    all-three _ _ _ _ (sym (first f) ∙ g .before .before .before .if1 .taken) (sym (second g) ∙ c .before .before .before .if2 .taken)
+    (rw (← c .before .before .parent-place .ensures, ← c .before .start-place2 .ensures) (c .fields-same .ensures))
 
 returns-2 : tie.Need-returns-2
 returns-2 c =
     let g = c .before in
     let f = g .before .before .before .before in
-    let a = f .before .before .before in
-    let b = a .args .register .now in
-    let first : below? (codeAt b (a .args .low)) (codeAt b (startPlace (a .args .at))) ≡ _ =
-    sym (f .fields-below .ensures ∙ ap (λ (k : ℕ). below? (codeAt b (a .args .low)) (codeAt b k)) (f .before .start-place .ensures)) in
-    let second : below? (codeAt b (endPlace (a .args .at))) (codeAt b (endPlace (a .args .parent))) ≡ _ =
-    sym (g .fields-below2 .ensures ∙ ap (λ (k : ℕ). below? (codeAt b k) (codeAt b (g .before .end-place2 .result)))
-    (g .before .before .end-place .ensures)
-    ∙ ap (λ (k : ℕ). below? (codeAt b (endPlace (a .args .at))) (codeAt b k)) (g .before .end-place2 .ensures)) in
-    second-fails _ _ _ (first ∙ g .before .before .before .if1 .taken) (second ∙ c .if2 .left)
+    second-fails _ _ _ (sym (first f) ∙ g .before .before .before .if1 .taken) (sym (second g) ∙ c .if2 .left)
 
 returns-3 : tie.Need-returns-3
-returns-3 c =
-    let f = c .before in
-    let a = f .before .before .before in
-    let b = a .args .register .now in
-    let first : below? (codeAt b (a .args .low)) (codeAt b (startPlace (a .args .at))) ≡ _ =
-    sym (f .fields-below .ensures ∙ ap (λ (k : ℕ). below? (codeAt b (a .args .low)) (codeAt b k)) (f .before .start-place .ensures)) in
-    first-fails _ _ (first ∙ c .if1 .left)
+returns-3 c = first-fails _ _ (sym (first (c .before)) ∙ c .if1 .left)
 
 pub in-place-spec : {M : Type 1} → statement M
 in-place-spec =

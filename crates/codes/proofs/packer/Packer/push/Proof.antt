@@ -1,46 +1,54 @@
--- `Packer::push` meets its contract: by cases on the count modulo 4. Assumes nothing.
-use borrow.Author.Needs.{needs}
+-- `Packer::push` meets its contract: the byte goes on or begins anew, and the digit is shifted to its place. Assumes nothing.
+use mathlib.Core.Path.{_≡_, refl, ap, _∙_}
 use mathlib.Core.Logic.{⊎-elim}
+use Prim.Native.Nat.{ℕ, _+_, _*_, _-_, _%_, _^_}
 use native.Mathlib.Omega.{arith}
-use Rattle.codes.proofs.FieldLaws.{last-of-four}
-use Rattle.codes.proofs.PackerLaws.{open-at, after}
+use borrow.Author.Needs.{needs}
+use Rattle.codes.specs.Packer.{begun}
+use Rattle.codes.proofs.PackerLaws.{begun-new, begun-on, shifted, fits-byte, after}
 use Rattle.codes.proofs.packer.Packer.push.Statement.{statement}
 use Rattle.codes.proofs.packer.Packer.push.Tie as tie
 
-mul-next : tie.Need-mul-next
-mul-next c = search needs
+-- what is stored in the byte
+stored : (c : tie.Joined1) →
+    let a = c .before .before .args in
+    let k : ℕ = a .self .count % 4 in
+    c .if1 .begun + a .digit * 2 ^ (6 - k * 2) % 256 ≡ begun k (a .self .pending) + a .digit * 4 ^ (3 - k)
+stored c =
+    let s = c .before .before in
+    let p = s .args .self in
+    let k : ℕ = p .count % 4 in
+    let e : c .if1 .begun ≡ begun k (p .pending) =
+    ⊎-elim (λ w. begun-new k (p .pending) _ (w .0 .taken) (w .1)) (λ w. begun-on k (p .pending) _ (w .0 .left) (w .1)) (c .if1 .came) in
+    let d = shifted (s .args .digit) k (s .pre .small) (omega arith) in
+    rw (e, d) refl
 
-mul-next-2 : tie.Need-mul-next-2
-mul-next-2 c = search needs
+mul-t7 : tie.Need-mul-t7
+mul-t7 c = omega arith
 
-add-next : tie.Need-add-next
-add-next c = omega (arith, open-at (c .before .args .self) 1 (c .match .keys2) (λ z. omega arith) (c .before .pre .opened))
+sub-t8 : tie.Need-sub-t8
+sub-t8 c = omega arith
 
-mul-next-3 : tie.Need-mul-next-3
-mul-next-3 c = search needs
+cast-t9 : tie.Need-cast-t9
+cast-t9 c = omega arith
 
-add-next-2 : tie.Need-add-next-2
-add-next-2 c = omega (arith, open-at (c .before .args .self) 2 (c .match .keys3) (λ z. omega arith) (c .before .pre .opened))
+shl-t10 : tie.Need-shl-t10
+shl-t10 c = omega arith
 
-add-next-3 : tie.Need-add-next-3
-add-next-3 c =
-    let k = last-of-four (c .before .args .self .count) (c .match .rest .0 .0 .1) (c .match .rest .0 .1) (c .match .rest .1) in
-    omega (arith, open-at (c .before .args .self) 3 k (λ z. omega arith) (c .before .pre .opened))
+add-t11 : tie.Need-add-t11
+add-t11 c =
+    let s = c .before .before .before in
+    let p = s .args .self in
+    omega (arith, stored (c .before), fits-byte p (s .args .digit) (p .count % 4) (s .pre .small) (omega arith) (omega arith) refl (s .pre .opened))
 
-add-t10 : tie.Need-add-t10
-add-t10 c = search needs
+add-t12 : tie.Need-add-t12
+add-t12 c = search needs
 
 returns : tie.Need-returns
 returns c =
-    let p = c .before .args .self in
-    let made = after p (c .before .args .digit) (c .match .next) (c .before .pre .small) (c .before .pre .opened) in
-    ⊎-elim (λ w. made 0 (omega arith) (w .0 .keys1) (omega arith))
-    (⊎-elim (λ w. made 1 (omega arith) (w .0 .keys2) (omega arith))
-    (⊎-elim (λ w. made 2 (omega arith) (w .0 .keys3) (omega arith))
-    (λ w. made 3 (omega arith) (last-of-four (p .count) (w .0 .rest .0 .0 .1) (w .0 .rest .0 .1) (w .0 .rest .1)) (omega arith))))
-    (c .match .came)
+    let s = c .before .before .before .before in
+    let p = s .args .self in
+    after p (s .args .digit) _ (s .pre .small) (s .pre .opened) (p .count % 4) (omega arith) refl (stored (c .before .before))
 
 pub push-spec : {M : Type 1} → statement M
-push-spec =
-    tie.close
-    (tie.spec mul-next mul-next-2 add-next mul-next-3 add-next-2 add-next-3 add-t10 returns)
+push-spec = tie.close (tie.spec mul-t7 sub-t8 cast-t9 shl-t10 add-t11 add-t12 returns)

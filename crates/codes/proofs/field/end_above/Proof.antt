@@ -1,12 +1,12 @@
 -- The digit above a word's low zeros ends a code, and with ones below it the word is full.
 -- Assumes nothing.
-use mathlib.Core.Path.{refl}
+use Prim.Native.Nat.{ℕ, _*_, _/_}
 use native.Mathlib.Omega.{arith}
 use lib.Pow.{pow-pos}
 use borrow.Author.Needs.{needs}
-use Rattle.codes.proofs.DigitLaws.{low, one-up, ended-full, ended-low, ended-none}
-use Rattle.codes.proofs.field.end_word.Statement.{statement}
-use Rattle.codes.proofs.field.end_word.Tie as tie
+use Rattle.codes.proofs.DigitLaws.{one-up, ended-full, ended-low, ended-none}
+use Rattle.codes.proofs.field.end_above.Statement.{statement}
+use Rattle.codes.proofs.field.end_above.Tie as tie
 
 mul-low : tie.Need-mul-low
 mul-low c = search needs
@@ -25,7 +25,7 @@ shl-full-word c = search needs
 
 sub-full-word : tie.Need-sub-full-word
 sub-full-word c =
-    let t = low 32 (c .before .before .args .word) in
+    let t : ℕ = c .before .before .args .zeros / 2 * 2 in
     rw (one-up t (omega arith)) (pow-pos t)
 
 full-word-requires : tie.Need-full-word-requires
@@ -33,17 +33,19 @@ full-word-requires c κs = search needs
 
 returns : tie.Need-returns
 returns c =
-    ended-full (c .before .before .before .args .word) _ _ (omega arith) refl (omega arith) (c .before .if2 .taken)
-    (c .full-word .ensures)
+    let a = c .before .before .before in
+    ended-full (a .args .word) (a .args .zeros) (omega arith) (a .pre) _ (omega arith) (c .before .if2 .taken) (c .full-word .ensures)
 
 returns-2 : tie.Need-returns-2
-returns-2 c = ended-low (c .before .before .args .word) _ (omega arith) refl (c .if2 .left)
+returns-2 c =
+    let a = c .before .before in
+    ended-low (a .args .word) (a .args .zeros) (omega arith) (a .pre) (c .if2 .left)
 
 returns-3 : tie.Need-returns-3
-returns-3 c = ended-none (c .before .args .word) (omega arith) (c .if1 .left)
+returns-3 c = ended-none (c .before .args .word) (c .before .args .zeros) (omega arith) (c .before .pre) (c .if1 .left)
 
-pub end-word-spec : {M : Type 1} → statement M
-end-word-spec =
+pub end-above-spec : {M : Type 1} → statement M
+end-above-spec =
     tie.close
     (tie.spec
     mul-low
