@@ -1,7 +1,7 @@
 -- Laws of the three calls: what each outcome is in each case, and what is known of two sides that are in order.
 -- Assumes nothing.
 use mathlib.Core.Path.{_≡_, refl, sym, ap, _∙_}
-use mathlib.Core.Bool.{Bool, true, false, cond}
+use mathlib.Core.Bool.{Bool, true, false, cond, false≢true}
 use mathlib.Core.List.{List, [], _∷_}
 use Prim.Native.Nat.{ℕ, _≤_, _<_}
 use native.Mathlib.Omega.{arith}
@@ -23,12 +23,12 @@ use Rattle.codes.specs.declared.field.Kind.{Kind}
 use Rattle.codes.specs.declared.field.Kind.the-variants.{Full, Empty, Unsound}
 use Rattle.codes.specs.Code.{fieldSize, longest, code?}
 use Rattle.codes.specs.Field.{fieldOf, spread, lead, Slots}
-use Rattle.codes.specs.Reading.{Reading, code, empty, unsound, read, kindOf, sideOf}
+use Rattle.codes.specs.Reading.{Reading, code, empty, unsound, read, kindOf, codeHeld?, sideOf}
 use Rattle.codes.specs.declared.spread.Code.{Code}
 use Rattle.codes.specs.Spread.{digitsOf, Held}
 use Rattle.codes.specs.Calls.{written, packOutcome, unpackOutcome, sidesOf, betweenOutcome}
 use Rattle.codes.proofs.FieldLaws.{field-length, lead-field, formed-quaternary, below?-field}
-use Rattle.codes.proofs.ReadingLaws.{read-code, read-empty}
+use Rattle.codes.proofs.ReadingLaws.{read-code, read-empty, full-kind, held-code}
 use Rattle.codes.proofs.SpreadLaws.{held-is}
 
 module _ (x : Digits) (lent : List ℕ) where
@@ -81,34 +81,20 @@ held-between left right x y a b made k m h i j =
 pub known-count : (field : List ℕ) (x : Digits) (c : Code) → Known field x → Held c (lead (spread field)) → c .count ≤ longest
 known-count field x c k h = omega (arith, h .count, ap length (k .digits), k .fits)
 
--- a field that is full holds the code of its digits
-pub full-code : (field : List ℕ) → kindOf (read field) ≡ Full → read field ≡ code (lead (spread field))
-full-code field h = go (read field) refl
-  where
-    go : (r : Reading) → read field ≡ r → read field ≡ code (lead (spread field))
-    go (code x) e = e ∙ ap code (sym (known-code field x e .digits))
-    go empty e = let z : _≡_ {A = ℕ} 0 1 = cc in absurd (omega arith)
-    go unsound e = let z : _≡_ {A = ℕ} 0 1 = cc in absurd (omega arith)
+-- a field that holds a code
+pub held-known : (field : List ℕ) → codeHeld? (read field) ≡ true → Known field (sideOf (read field))
+held-known field h = known-code field _ (held-code (read field) h)
 
-pub full-known : (field : List ℕ) → kindOf (read field) ≡ Full → Known field (sideOf (read field))
-full-known field h = let e = full-code field h in known-code field (sideOf (read field)) (e ∙ ap (λ (r : Reading). code (sideOf r)) (sym e))
+pub full-size : (field : List ℕ) → kindOf (read field) ≡ Full → length field ≡ fieldSize
+full-size field h = held-known field (full-kind (read field) h) .size
 
 module _ (field lent : List ℕ) where
-  pub unpack-empty : kindOf (read field) ≡ Empty → unpackOutcome field lent ≡ refused NoCode lent
+  pub unpack-none : codeHeld? (read field) ≡ false → unpackOutcome field lent ≡ refused NoCode lent
   unfolding unpackOutcome
-  unpack-empty h = go (read field) refl
+  unpack-none h = go (read field) refl
     where
       go : (r : Reading) → read field ≡ r → unpackOutcome field lent ≡ refused NoCode lent
-      go (code x) e = let z : _≡_ {A = ℕ} 0 1 = cc in absurd (omega arith)
-      go empty e = rw e
-      go unsound e = rw e
-
-  pub unpack-unsound : kindOf (read field) ≡ Unsound → unpackOutcome field lent ≡ refused NoCode lent
-  unfolding unpackOutcome
-  unpack-unsound h = go (read field) refl
-    where
-      go : (r : Reading) → read field ≡ r → unpackOutcome field lent ≡ refused NoCode lent
-      go (code x) e = let z : _≡_ {A = ℕ} 0 1 = cc in absurd (omega arith)
+      go (code x) e = absurd (false≢true (sym h ∙ ap codeHeld? e))
       go empty e = rw e
       go unsound e = rw e
 
@@ -120,9 +106,6 @@ module _ (field lent : List ℕ) where
       → unpackOutcome field lent ≡ accepted (length x) (put lent 0 x)
   unfolding unpackOutcome
   unpack-written x e h = rw (e, le-leb (length x) (length lent) h)
-
-pub full-size : (field : List ℕ) → kindOf (read field) ≡ Full → length field ≡ fieldSize
-full-size field h = known-code field _ (full-code field h) .size
 
 -- how two sides stand by their kinds, and by their bytes where both are full
 abbrev pub sidesAs : Kind → Kind → Bool → Sides
@@ -140,6 +123,11 @@ full-below left right x y p q =
     let a = read-code left x p in
     let b = read-code right y q in
     rw (a .1, b .1) (below?-field x y (a .0) (b .0))
+
+-- two fields that hold codes compare as their digits
+pub held-below : (left right : List ℕ) → codeHeld? (read left) ≡ true → codeHeld? (read right) ≡ true
+    → below? left right ≡ below? (sideOf (read left)) (sideOf (read right))
+held-below left right h k = full-below left right _ _ (held-code (read left) h) (held-code (read right) k)
 
 sides-read : (left right : List ℕ)
     → sidesOf (read left) (read right) ≡ sidesAs (kindOf (read left)) (kindOf (read right)) (below? left right)

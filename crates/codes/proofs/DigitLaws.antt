@@ -1,16 +1,14 @@
--- Laws of the digits of a number to the base four: the highest taken off, none of them zero by one mask, the end of a code by its zeros.
+-- Laws of the digits of a number to the base four: the highest taken off, those that are zero by one mask, the end of a code by them.
 -- Assumes nothing.
 use mathlib.Core.Path.{_≡_, refl, sym, ap, _∙_}
-use mathlib.Core.Bool.{Bool, true, false, not, cond, _&&_, and-assoc}
+use mathlib.Core.Bool.{Bool, true, false, not, cond, _&&_, and-assoc, and-false}
 use Prim.Native.Nat.{ℕ, zero, suc, _+_, _*_, _-_, _/_, _%_, _≤_, _<_, _^_, max}
-use native.Mathlib.Nat.{pow-succ', mul-left-comm, one-mul, div-eq-of-lt}
+use native.Mathlib.Nat.{pow-succ', mul-left-comm}
 use native.Mathlib.Omega.{arith}
-use lib.Bits.{bitAnd, bitOr, and-step, or-step, or-shr, and-zero-r, or-block, or-zero-r}
-use lib.Count.{trailingZeros, under}
+use lib.Bits.{bitAnd, bitOr, and-step, or-step, or-shr, and-zero-r, and-le-r, and-mask, and-self, and-block}
 use lib.Dec.{eqb, leb, ltb}
-use lib.Pow.{shr-shr, pow-add, pow-pos, pow-mono, shl-exact}
-use borrow.Author.Tests.{eq-eqb, ne-eqb, eqb-true, eqb-false, lt-leb, le-leb, lt-ltb, le-ltb}
-use Rattle.codes.specs.Words.{full, ended}
+use borrow.Author.Tests.{eq-eqb, ne-eqb, eqb-true, eqb-false, leb-true, leb-false, lt-ltb, le-ltb}
+use Rattle.codes.specs.Words.{blanks, full, ended}
 
 -- The highest digit d of a number, above m digits l.
 
@@ -76,7 +74,7 @@ ended-one (suc (suc zero)) h = refl
 ended-one (suc (suc (suc zero))) h = refl
 ended-one (suc (suc (suc (suc d)))) h = absurd (omega arith)
 
--- No digit is zero: by one mask.
+-- The digits that are zero, by one mask.
 
 -- a one in each of the n lowest digits
 abbrev ones : ℕ → ℕ
@@ -102,136 +100,148 @@ masked a m =
     let q : a / 2 / 2 ≡ a / 4 = omega arith in
     rw (and-step a (m * 4 + 1), e, o, and-step (a / 2) (m * 2), f, z, q) (omega arith)
 
--- the two bits of a digit
-two-bits : (v : ℕ) → v % 4 ≡ v % 2 + 2 * (v / 2 % 2)
-two-bits v = omega arith
+-- the larger of a digit's two bits
+larger : (a b d : ℕ) (s : Bool) → a < 2 → b < 2 → d ≡ a + 2 * b → eqb d 0 ≡ s → max a b ≡ cond s 0 1
+larger a b d true h k e f = omega (arith, eqb-true d 0 f)
+larger a b d false h k e f = omega (arith, eqb-false d 0 f)
 
-larger-one : (a b d r : ℕ) → a < 2 → b < 2 → d ≡ a + 2 * b → r ≡ max a b → (d ≡ 0 → ⊥) → r ≡ 1
-larger-one a b d r h k q e nz = omega arith
+larger-bit : (v : ℕ) → max (v % 2) (v / 2 % 2) ≡ cond (eqb (v % 4) 0) 0 1
+larger-bit v = larger (v % 2) (v / 2 % 2) (v % 4) (eqb (v % 4) 0) (omega arith) (omega arith) (omega arith) refl
 
-larger-none : (a b d r : ℕ) → d ≡ a + 2 * b → r ≡ max a b → d ≡ 0 → r ≡ 0
-larger-none a b d r q e z = omega arith
+blank-step : (w b m : ℕ) (s : Bool) → b ≤ w → m ≡ cond s 0 1 → (w * 4 + 1 - (b * 4 + m)) * 3 ≡ (w - b) * 3 * 4 + cond s 3 0
+blank-step w b m true h e = omega arith
+blank-step w b m false h e = omega arith
 
-mask-step : (v w m r : ℕ) (s t : Bool) → r ≡ max (v % 2) (v / 2 % 2) → eqb (v % 4) 0 ≡ s → eqb w m ≡ t
-    → eqb (w * 4 + r) (m * 4 + 1) ≡ cond s false t
-mask-step v w m r true t e h k =
-    let u : r ≡ 0 = larger-none (v % 2) (v / 2 % 2) (v % 4) r (two-bits v) e (eqb-true (v % 4) 0 h) in
-    let a : (w * 4 + r) % 4 ≡ 0 = omega (arith, u) in
-    let b : (m * 4 + 1) % 4 ≡ 1 = omega arith in
-    ne-eqb (w * 4 + r) (m * 4 + 1) (λ z. omega (arith, sym a ∙ ap (λ (n : ℕ). n % 4) z ∙ b))
-mask-step v w m r false t e h k = go t k
+pub blanks-mask : (n v : ℕ) → (ones n - bitAnd (met v) (ones n)) * 3 ≡ blanks n v
+unfolding blanks
+blanks-mask zero v = rw (and-zero-r (met v)) refl
+blanks-mask (suc n) v =
+    rw (masked (met v) (ones n), met-rest v, ← blanks-mask n (v / 4))
+    (blank-step (ones n) (bitAnd (met (v / 4)) (ones n)) (met v % 2) (eqb (v % 4) 0) (and-le-r (met (v / 4)) (ones n))
+    (met-odd v ∙ larger-bit v))
+
+pub blanks-full : (n v : ℕ) → eqb (blanks n v) 0 ≡ full n v
+unfolding blanks full
+blanks-full zero v = refl
+blanks-full (suc n) v = go (eqb (v % 4) 0) (blanks n (v / 4)) (full n (v / 4)) (blanks-full n (v / 4))
   where
-    u : r ≡ 1
-    u = larger-one (v % 2) (v / 2 % 2) (v % 4) r (omega arith) (omega arith) (two-bits v) e (eqb-false (v % 4) 0 h)
+    go : (s : Bool) (z : ℕ) (t : Bool) → eqb z 0 ≡ t → eqb (z * 4 + cond s 3 0) 0 ≡ cond s false t
+    go true z t e = ne-eqb (z * 4 + 3) 0 (λ h. omega arith)
+    go false z true e = eq-eqb (z * 4 + 0) 0 (omega (arith, eqb-true z 0 e))
+    go false z false e = ne-eqb (z * 4 + 0) 0 (λ h. eqb-false z 0 e (omega arith))
 
-    go : (t : Bool) → eqb w m ≡ t → eqb (w * 4 + r) (m * 4 + 1) ≡ t
-    go true k = eq-eqb (w * 4 + r) (m * 4 + 1) (omega (arith, u, eqb-true w m k))
-    go false k = ne-eqb (w * 4 + r) (m * 4 + 1) (λ z. eqb-false w m k (omega (arith, u)))
-
-pub full-mask : (n v : ℕ) → eqb (bitAnd (met v) (ones n)) (ones n) ≡ full n v
-unfolding full
-full-mask zero v = rw (and-zero-r (met v)) refl
-full-mask (suc n) v =
-    rw (masked (met v) (ones n), met-rest v)
-    (mask-step v (bitAnd (met (v / 4)) (ones n)) (ones n) (met v % 2) (eqb (v % 4) 0) (full n (v / 4)) (met-odd v) refl
-    (full-mask n (v / 4)))
-
--- The word in which a code ends, by the count of the zeros at its end.
-
-abbrev twice : ℕ → ℕ
-twice zero = zero
-twice (suc n) = suc (suc (twice n))
-
--- the places below the last digit that is not zero, of n digits
-abbrev low : ℕ → ℕ → ℕ
-low n v = trailingZeros (twice n) v / 2 * 2
-
-no-bits : (a b d : ℕ) → d ≡ a + 2 * b → d ≡ 0 → (a ≡ 0) × (b ≡ 0)
-no-bits a b d q z = (omega arith, omega arith)
-
-zeros-more : (k v : ℕ) → v % 4 ≡ 0 → trailingZeros (suc (suc k)) v ≡ suc (suc (trailingZeros k (v / 4)))
-unfolding trailingZeros
-zeros-more k v z =
-    let b = no-bits (v % 2) (v / 2 % 2) (v % 4) (two-bits v) z in
-    let c : v / 2 / 2 ≡ v / 4 = omega arith in
-    rw (b .0, b .1, c) refl
-
-low-more : (n v : ℕ) → v % 4 ≡ 0 → low (suc n) v ≡ 2 + low n (v / 4)
-low-more n v z = let e = zeros-more (twice n) v z in omega arith
-
-under-none : (a b v : ℕ) → (a + 2 * b ≡ 0 → ⊥) → under a (under b v) / 2 * 2 ≡ 0
-under-none zero zero v h = absurd (h refl)
-under-none zero (suc b) v h = refl
-under-none (suc a) b v h = refl
-
-low-none : (n v : ℕ) → (v % 4 ≡ 0 → ⊥) → low (suc n) v ≡ 0
-unfolding trailingZeros
-low-none n v h = under-none (v % 2) (v / 2 % 2) (trailingZeros (twice n) (v / 2 / 2)) (λ z. h (two-bits v ∙ z))
-
--- the lowest digit is zero where two places at least are
-pub zeros-last : (v : ℕ) → ltb 1 (trailingZeros 64 v) ≡ eqb (v % 4) 0
-zeros-last v = go (eqb (v % 4) 0) refl
+-- there is room for one more, save where all digits are zero
+pub blanks-lt : (n v : ℕ) → blanks n v < 4 ^ n
+unfolding blanks
+blanks-lt zero v = omega arith
+blanks-lt (suc n) v = rw (pow-succ' 4 n) (go (eqb (v % 4) 0) (blanks-lt n (v / 4)))
   where
-    go : (s : Bool) → eqb (v % 4) 0 ≡ s → ltb 1 (trailingZeros 64 v) ≡ s
-    go true e = lt-ltb 1 (trailingZeros 64 v) (omega (arith, zeros-more 62 v (eqb-true (v % 4) 0 e)))
-    go false e = le-ltb 1 (trailingZeros 64 v) (omega (arith, low-none 31 v (eqb-false (v % 4) 0 e)))
+    go : (s : Bool) → blanks n (v / 4) < 4 ^ n → blanks n (v / 4) * 4 + cond s 3 0 < 4 * 4 ^ n
+    go true h = omega arith
+    go false h = omega arith
 
--- ones below place t, and two places more
-ones-more : (t : ℕ) → 2 ^ (2 + t) - 1 ≡ (2 ^ t - 1) * 4 + 3
-ones-more t = let p = pow-pos t in rw (pow-add 2 2 t) (omega arith)
+pub blanks-some : (n v : ℕ) → v < 4 ^ n → (v ≡ 0 → ⊥) → blanks n v + 1 < 4 ^ n
+unfolding blanks
+blanks-some zero v h k = absurd (k (omega arith))
+blanks-some (suc n) v h k =
+    rw (pow-succ' 4 n) (go (eqb (v % 4) 0) refl (blanks-lt n (v / 4)) (λ z. blanks-some n (v / 4) (rest-lt n v h) z))
+  where
+    go : (s : Bool) → eqb (v % 4) 0 ≡ s → blanks n (v / 4) < 4 ^ n → ((v / 4 ≡ 0 → ⊥) → blanks n (v / 4) + 1 < 4 ^ n)
+        → blanks n (v / 4) * 4 + cond s 3 0 + 1 < 4 * 4 ^ n
+    go true e l f =
+        let z : v % 4 ≡ 0 = eqb-true (v % 4) 0 e in
+        let g = f (λ (w : v / 4 ≡ 0). k (omega arith)) in
+        omega arith
+    go false e l f = omega arith
 
-or-more : (v t : ℕ) → v % 4 ≡ 0 → bitOr v (2 ^ (2 + t) - 1) ≡ bitOr (v / 4) (2 ^ t - 1) * 4 + 3
-or-more v t z =
-    let e : v ≡ v / 4 * 4 + 0 = omega arith in
-    ap (λ (k : ℕ). bitOr k (2 ^ (2 + t) - 1)) e
-    ∙ ap (λ (k : ℕ). bitOr (v / 4 * 4 + 0) k) (ones-more t)
-    ∙ or-block 2 (v / 4) (2 ^ t - 1) 0 3 (omega arith) (omega arith)
+-- The word in which a code ends, by its zeros.
 
--- the digit at place t is 2 or 3, and with ones below it no digit is zero
-abbrev Ends : ℕ → ℕ → ℕ → Type 0
-Ends n v t = ended n v ≡ leb 2 (v / 2 ^ t % 4) && full n (bitOr v (2 ^ t - 1))
+-- the zeros are the lowest digits, and the digit above them is 2 or 3
+abbrev ends? : ℕ → ℕ → Bool
+ends? v z = eqb (bitAnd z (z + 1)) 0 && not (eqb (bitAnd (v / 2) (z + 1)) 0)
 
-ends-step : (n v : ℕ) (s : Bool) → eqb (v % 4) 0 ≡ s → Ends n (v / 4) (low n (v / 4)) → Ends (suc n) v (low (suc n) v)
-unfolding ended full
-ends-step n v true h ih =
-    let z : v % 4 ≡ 0 = eqb-true (v % 4) 0 h in
-    let w : ℕ = bitOr (v / 4) (2 ^ low n (v / 4) - 1) in
-    let r : (w * 4 + 3) % 4 ≡ 3 = omega arith in
-    let q : (w * 4 + 3) / 4 ≡ w = omega arith in
-    rw (h, low-more n v z, or-more v (low n (v / 4)) z, r, q, ← shr-shr v 2 (low n (v / 4))) ih
-ends-step n v false h ih =
-    let o : v / 1 ≡ v = omega arith in
-    rw (h, low-none n v (eqb-false (v % 4) 0 h), or-zero-r v, o, h) refl
+four-zero : (x : ℕ) → eqb (x * 4 + 0) 0 ≡ eqb x 0
+four-zero x = go (eqb x 0) refl
+  where
+    go : (s : Bool) → eqb x 0 ≡ s → eqb (x * 4 + 0) 0 ≡ s
+    go true e = eq-eqb (x * 4 + 0) 0 (omega (arith, eqb-true x 0 e))
+    go false e = ne-eqb (x * 4 + 0) 0 (λ h. eqb-false x 0 e (omega arith))
 
-ends : (n v : ℕ) → v < 4 ^ n → Ends n v (low n v)
-unfolding ended full trailingZeros
-ends zero v k =
+-- below a digit that is zero nothing changes
+ends-below : (v z : ℕ) → v % 4 ≡ 0 → ends? v (z * 4 + 3) ≡ ends? (v / 4) z
+ends-below v z h =
+    let a : z * 4 + 3 + 1 ≡ (z + 1) * 4 + 0 = omega arith in
+    let b : v / 2 ≡ v / 4 / 2 * 4 + v / 2 % 4 = omega arith in
+    let p : bitAnd (z * 4 + 3) ((z + 1) * 4 + 0) ≡ bitAnd z (z + 1) * 4 + 0 = and-block 2 z (z + 1) 3 0 (omega arith) (omega arith) in
+    let q : bitAnd (v / 2) ((z + 1) * 4 + 0) ≡ bitAnd (v / 4 / 2) (z + 1) * 4 + 0 =
+    ap (λ (k : ℕ). bitAnd k ((z + 1) * 4 + 0)) b
+    ∙ and-block 2 (v / 4 / 2) (z + 1) (v / 2 % 4) 0 (omega arith) (omega arith)
+    ∙ ap (λ (k : ℕ). bitAnd (v / 4 / 2) (z + 1) * 4 + k) (and-zero-r (v / 2 % 4)) in
+    rw (a, p, q, four-zero (bitAnd z (z + 1)), four-zero (bitAnd (v / 4 / 2) (z + 1))) refl
+
+-- a digit that is not zero ends the code, where it is 2 or 3 and none above it is zero
+ends-here : (v z : ℕ) (t : Bool) → eqb z 0 ≡ t → ends? v (z * 4 + 0) ≡ leb 2 (v % 4) && t
+ends-here v z true e =
+    let h : z ≡ 0 = eqb-true z 0 e in
+    let a : bitAnd (v / 2) 1 ≡ v / 2 % 2 = and-mask (v / 2) 1 in
+    rw (h, a) (go (leb 2 (v % 4)) refl)
+  where
+    go : (s : Bool) → leb 2 (v % 4) ≡ s → not (eqb (v / 2 % 2) 0) ≡ s && true
+    go true f = let k : 2 ≤ v % 4 = leb-true 2 (v % 4) f in rw (ne-eqb (v / 2 % 2) 0 (λ h. omega arith)) refl
+    go false f = let k : v % 4 < 2 = leb-false 2 (v % 4) f in rw (eq-eqb (v / 2 % 2) 0 (omega arith)) refl
+ends-here v z false e =
+    let p : bitAnd (z * 4 + 0) (z * 4 + 0 + 1) ≡ z * 4 + 0 =
+    ap (λ (k : ℕ). bitAnd (z * 4 + 0) k) (let f : z * 4 + 0 + 1 ≡ z * 4 + 1 = omega arith in f)
+    ∙ and-block 2 z z 0 1 (omega arith) (omega arith)
+    ∙ ap (λ (k : ℕ). k * 4 + 0) (and-self z) in
+    rw (p, four-zero z, e) (sym (and-false (leb 2 (v % 4))))
+
+pub ended-blanks : (n v : ℕ) → v < 4 ^ n → ends? v (blanks n v) ≡ ended n v
+unfolding blanks ended
+ended-blanks zero v h =
     let z : v ≡ 0 = omega arith in
     rw z refl
-ends (suc n) v k = ends-step n v (eqb (v % 4) 0) refl (ends n (v / 4) (rest-lt n v k))
+ended-blanks (suc n) v h =
+    go (eqb (v % 4) 0) refl (ended-blanks n (v / 4) (rest-lt n v h)) (ends-here v (blanks n (v / 4)) (full n (v / 4)) (blanks-full n (v / 4)))
+  where
+    go : (s : Bool) → eqb (v % 4) 0 ≡ s → ends? (v / 4) (blanks n (v / 4)) ≡ ended n (v / 4)
+        → ends? v (blanks n (v / 4) * 4 + 0) ≡ leb 2 (v % 4) && full n (v / 4)
+        → ends? v (blanks n (v / 4) * 4 + cond s 3 0) ≡ cond s (ended n (v / 4)) (leb 2 (v % 4) && full n (v / 4))
+    go true e f g = ends-below v (blanks n (v / 4)) (eqb-true (v % 4) 0 e) ∙ f
+    go false e f g = g
 
-pub one-up : (t : ℕ) → t < 64 → 1 * 2 ^ t % 18446744073709551616 ≡ 2 ^ t
-one-up t h = shl-exact {a = 1} 1 t 64 (omega arith) (omega arith) ∙ one-mul (2 ^ t)
+-- no code ends where all digits are zero
+pub ended-zero : (n v : ℕ) → v ≡ 0 → false ≡ ended n v
+unfolding ended
+ended-zero zero v e = refl
+ended-zero (suc n) v e = rw (eq-eqb (v % 4) 0 (omega arith)) (ended-zero n (v / 4) (omega arith))
 
--- a word with z low zeros: with its low digits made ones it is full, or the code does not end in it
-module _ (v z : ℕ) (h : v < 2 ^ 64) (e : z ≡ trailingZeros 64 v) where
-  -- the place of the last digit that is not zero
-  abbrev pub last : ℕ
-  last = z / 2 * 2
+-- a code ends in a word, by the two tests one after the other
+module _ (v z : ℕ) (h : v < 2 ^ 64) (e : z ≡ blanks 32 v) where
+  by-tests : ends? v z ≡ ended 32 v
+  by-tests = rw e (ended-blanks 32 v h)
 
-  ends-last : Ends 32 v last
-  ends-last = let f : low 32 v ≡ last = ap (λ (n : ℕ). n / 2 * 2) (sym e) in rw f at (ends 32 v h)
+  pub ended-low : bitAnd z (z + 1) ≡ 0 → not (eqb (bitAnd (v / 2) (z + 1)) 0) ≡ ended 32 v
+  ended-low f = rw (eq-eqb (bitAnd z (z + 1)) 0 f) at by-tests
 
-  pub ended-full : (r : Bool) → last < 64 → 1 < v / 2 ^ last % 4 → r ≡ full 32 (bitOr v (1 * 2 ^ last % 18446744073709551616 - 1))
-      → r ≡ ended 32 v
-  ended-full r k g f = rw (one-up last k) at f ∙ sym (rw (le-leb 2 (v / 2 ^ last % 4) (omega arith)) at ends-last)
+  pub ended-apart : (bitAnd z (z + 1) ≡ 0 → ⊥) → false ≡ ended 32 v
+  ended-apart f = rw (ne-eqb (bitAnd z (z + 1)) 0 f) at by-tests
 
-  pub ended-low : v / 2 ^ last % 4 ≤ 1 → false ≡ ended 32 v
-  ended-low g = sym (rw (lt-leb 2 (v / 2 ^ last % 4) (omega arith)) at ends-last)
+-- where a code ends in a word, the lowest digit is zero exactly where any is
+low-blank : (n v : ℕ) → (ltb 0 (blanks n v) && ended n v) ≡ (eqb (v % 4) 0 && ended n v)
+unfolding blanks ended
+low-blank zero v = sym (and-false (eqb (v % 4) 0))
+low-blank (suc n) v = go (eqb (v % 4) 0) (blanks n (v / 4)) (full n (v / 4)) (blanks-full n (v / 4))
+  where
+    go : (s : Bool) (z : ℕ) (t : Bool) → eqb z 0 ≡ t
+        → (ltb 0 (z * 4 + cond s 3 0) && cond s (ended n (v / 4)) (leb 2 (v % 4) && t))
+        ≡ (s && cond s (ended n (v / 4)) (leb 2 (v % 4) && t))
+    go true z t e = rw (lt-ltb 0 (z * 4 + 3) (omega arith)) refl
+    go false z true e = rw (le-ltb 0 (z * 4 + 0) (omega (arith, eqb-true z 0 e))) refl
+    go false z false e = rw (and-false (leb 2 (v % 4))) (and-false (ltb 0 (z * 4 + 0)))
 
-  pub ended-none : 64 ≤ z → false ≡ ended 32 v
-  ended-none g =
-      let k : 64 ≤ last = omega arith in
-      let p : 2 ^ 64 ≤ 2 ^ last = pow-mono k in
-      let n : v / 2 ^ last ≡ 0 = div-eq-of-lt (omega arith) in
-      ended-low (omega arith)
+pub last-blank : (n v : ℕ) (t : Bool) → (ltb 0 (blanks n v) && (ended n v && t)) ≡ (eqb (v % 4) 0 && (ended n v && t))
+last-blank n v t =
+    sym (and-assoc (ltb 0 (blanks n v)) (ended n v) t)
+    ∙ ap (λ (s : Bool). s && t) (low-blank n v)
+    ∙ and-assoc (eqb (v % 4) 0) (ended n v) t

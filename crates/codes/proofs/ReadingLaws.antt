@@ -15,7 +15,7 @@ use Rattle.digits.proofs.CodeLaws.{formed-cons, formed-first}
 use Rattle.codes.specs.declared.field.Kind.the-variants.{Full, Empty, Unsound}
 use Rattle.codes.specs.Code.{longest, fieldSize, IsCode, code?}
 use Rattle.codes.specs.Field.{fieldOf, gather, spread, lead}
-use Rattle.codes.specs.Reading.{Reading, code, empty, unsound, same?, read, kindOf}
+use Rattle.codes.specs.Reading.{Reading, code, empty, unsound, same?, read, kindOf, codeHeld?, emptyHeld?, sideOf}
 use Rattle.codes.specs.Words.{wordAt, packed?}
 use Rattle.codes.proofs.FieldLaws.{Quaternary, Bytes, pad, gather-spread, gather-bytes, formed-quaternary, field-length, spread-field, lead-field}
 use Rattle.codes.proofs.TestLaws.{code?-true, true-code?}
@@ -222,10 +222,10 @@ module _ (b : List ℕ) (size : length b ≡ fieldSize) (bytes : Bytes b) where
       ap read f ∙ read-field x c
 
   -- the words are a packed code exactly where the field reads as a code, and all zero exactly where it reads as empty
-  pub packed-read : packedField? b ≡ true → read b ≡ code (lead (spread b))
+  packed-read : packedField? b ≡ true → read b ≡ code (lead (spread b))
   packed-read h = whole-read (sym (packed?-closed b size bytes) ∙ h)
 
-  pub read-packed : (x : Digits) → read b ≡ code x → packedField? b ≡ true
+  read-packed : (x : Digits) → read b ≡ code x → packedField? b ≡ true
   read-packed x e =
       let t = read-code b x e in
       packed?-closed b size bytes ∙ ap (whole? longest) (ap spread (t .1) ∙ spread-field x (t .0))
@@ -235,22 +235,59 @@ module _ (b : List ℕ) (size : length b ≡ fieldSize) (bytes : Bytes b) where
   unfolding fieldOf
   blank-same = same?-words b (fieldOf []) size refl bytes (gather-bytes fieldSize [] tt)
 
-  pub blank-read : blankField? b ≡ true → read b ≡ empty
+  blank-read : blankField? b ≡ true → read b ≡ empty
   blank-read h = ap read (same?-true b (fieldOf []) (blank-same ∙ h)) ∙ read-nothing
 
-  pub read-blank : read b ≡ empty → blankField? b ≡ true
+  read-blank : read b ≡ empty → blankField? b ≡ true
   read-blank e = sym blank-same ∙ rw (read-empty b e) (same?-refl (fieldOf []))
 
-  pub kind-full : packedField? b ≡ true → kindOf (read b) ≡ Full
-  kind-full h = ap kindOf (packed-read h)
-
-  pub kind-empty : blankField? b ≡ true → kindOf (read b) ≡ Empty
-  kind-empty h = ap kindOf (blank-read h)
-
-  pub kind-unsound : packedField? b ≡ false → blankField? b ≡ false → kindOf (read b) ≡ Unsound
-  kind-unsound h k = go (read b) refl
+  pub words-code : packedField? b ≡ codeHeld? (read b)
+  words-code = go (packedField? b) refl
     where
-      go : (r : Reading) → read b ≡ r → kindOf r ≡ Unsound
-      go (code x) e = absurd (false≢true (sym h ∙ read-packed x e))
-      go empty e = absurd (false≢true (sym k ∙ read-blank e))
-      go unsound e = refl
+      none : (r : Reading) → read b ≡ r → packedField? b ≡ false → false ≡ codeHeld? r
+      none (code x) e h = sym h ∙ read-packed x e
+      none empty e h = refl
+      none unsound e h = refl
+
+      go : (t : Bool) → packedField? b ≡ t → t ≡ codeHeld? (read b)
+      go true h = sym (ap codeHeld? (packed-read h))
+      go false h = none (read b) refl h
+
+  pub words-empty : blankField? b ≡ emptyHeld? (read b)
+  words-empty = go (blankField? b) refl
+    where
+      none : (r : Reading) → read b ≡ r → blankField? b ≡ false → false ≡ emptyHeld? r
+      none (code x) e h = refl
+      none empty e h = sym h ∙ read-blank e
+      none unsound e h = refl
+
+      go : (t : Bool) → blankField? b ≡ t → t ≡ emptyHeld? (read b)
+      go true h = sym (ap emptyHeld? (blank-read h))
+      go false h = none (read b) refl h
+
+-- the kind by the two tests
+pub kind-full : (r : Reading) → codeHeld? r ≡ true → Full ≡ kindOf r
+kind-full (code x) h = refl
+kind-full empty h = absurd (false≢true h)
+kind-full unsound h = absurd (false≢true h)
+
+pub kind-empty : (r : Reading) → emptyHeld? r ≡ true → Empty ≡ kindOf r
+kind-empty (code x) h = absurd (false≢true h)
+kind-empty empty h = refl
+kind-empty unsound h = absurd (false≢true h)
+
+pub kind-unsound : (r : Reading) → codeHeld? r ≡ false → emptyHeld? r ≡ false → Unsound ≡ kindOf r
+kind-unsound (code x) h k = absurd (false≢true (sym h))
+kind-unsound empty h k = absurd (false≢true (sym k))
+kind-unsound unsound h k = refl
+
+pub full-kind : (r : Reading) → kindOf r ≡ Full → codeHeld? r ≡ true
+full-kind (code x) h = refl
+full-kind empty h = let z : _≡_ {A = ℕ} 0 1 = cc in absurd (omega arith)
+full-kind unsound h = let z : _≡_ {A = ℕ} 0 1 = cc in absurd (omega arith)
+
+-- a field that holds a code reads as it
+pub held-code : (r : Reading) → codeHeld? r ≡ true → r ≡ code (sideOf r)
+held-code (code x) h = refl
+held-code empty h = absurd (false≢true h)
+held-code unsound h = absurd (false≢true h)

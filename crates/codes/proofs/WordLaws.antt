@@ -151,13 +151,19 @@ module _ (x y : List ℕ) (ex : length x ≡ fieldSize) (ey : length y ≡ field
   next : 8 * k + 8 ≡ 8 * (k + 1)
   next = omega arith
 
-  pub below?-word : below? (drop (8 * k) x) (drop (8 * k) y)
+  below?-word : below? (drop (8 * k) x) (drop (8 * k) y)
       ≡ belowAt (compare (wordAt x (8 * k)) (wordAt y (8 * k))) (below? (drop (8 * (k + 1)) x) (drop (8 * (k + 1)) y))
   below?-word =
       let l = part-length x (8 * k) (omega arith) ∙ sym (part-length y (8 * k) (omega arith)) in
       rw (part-split x (8 * k), part-split y (8 * k), part-number x (8 * k) (omega arith), part-number y (8 * k) (omega arith), next) at
       (below?-number 256 (part x (8 * k)) (part y (8 * k)) (drop (8 * k + 8) x) (drop (8 * k + 8) y) l
       (part-bytes x (8 * k) p) (part-bytes y (8 * k) q))
+
+  -- what the k-th words, by how they compare, say of the fields
+  pub below?-turn : (a b : ℕ) (o : Ordering) → a ≡ wordAt x (8 * k) → b ≡ wordAt y (8 * k) → Compared a b o
+      → below? x y ≡ below? (drop (8 * k) x) (drop (8 * k) y)
+      → below? x y ≡ belowAt o (below? (drop (8 * (k + 1)) x) (drop (8 * (k + 1)) y))
+  below?-turn a b o e f h g = g ∙ below?-word ∙ rw (← e, ← f, compare-is a b o h) refl
 
   pub same?-word : same? (drop (8 * k) x) (drop (8 * k) y)
       ≡ eqb (wordAt x (8 * k)) (wordAt y (8 * k)) && same? (drop (8 * (k + 1)) x) (drop (8 * (k + 1)) y)

@@ -35,6 +35,17 @@ kindOf (code x) = Full
 kindOf empty = Empty
 kindOf unsound = Unsound
 
+-- a field that holds a code, and an empty one
+abbrev pub codeHeld? : Reading → Bool
+codeHeld? (code x) = true
+codeHeld? empty = false
+codeHeld? unsound = false
+
+abbrev pub emptyHeld? : Reading → Bool
+emptyHeld? (code x) = false
+emptyHeld? empty = true
+emptyHeld? unsound = false
+
 -- 01, between: the digits of a side; an empty field is an open side, with no digits
 abbrev pub sideOf : Reading → Digits
 sideOf (code x) = x

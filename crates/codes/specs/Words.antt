@@ -13,7 +13,12 @@ wordAt b at =
     + getD b (at + 3) 0 * 4294967296 + getD b (at + 4) 0 * 16777216 + getD b (at + 5) 0 * 65536 + getD b (at + 6) 0 * 256
     + getD b (at + 7) 0
 
--- of the n lowest digits of v, to the base four, none is zero
+-- a 3 in the place of each of the n lowest digits of v, to the base four, that is zero
+unfoldable pub blanks : ℕ → ℕ → ℕ
+blanks zero v = 0
+blanks (suc n) v = blanks n (v / 4) * 4 + cond (eqb (v % 4) 0) 3 0
+
+-- of the n lowest digits of v none is zero
 unfoldable pub full : ℕ → ℕ → Bool
 full zero v = true
 full (suc n) v = cond (eqb (v % 4) 0) false (full n (v / 4))

@@ -1,11 +1,12 @@
 // Codes and their packed fields: packing, unpacking, and a code between two codes.
 ghost use mathlib.Core.Path.{_≡_};
+ghost use mathlib.Core.Bool.{true};
 ghost use Prim.Native.Nat.{_+_, _≤_};
 ghost use lib.ListN.{length};
 ghost use Rattle.numbers.specs.Bytes.{put};
 ghost use Rattle.codes.specs.Code.{fieldSize, IsCode, code?};
 ghost use Rattle.codes.specs.Field.{fieldOf, Slots};
-ghost use Rattle.codes.specs.Reading.{read, kindOf, sideOf};
+ghost use Rattle.codes.specs.Reading.{read, codeHeld?, sideOf};
 ghost use Rattle.codes.specs.Spread.{digitsOf, Held, Short};
 ghost use Rattle.codes.specs.Calls.{packOutcome, unpackOutcome, sidesOf, betweenOutcome};
 
@@ -15,9 +16,12 @@ mod spread;
 
 use answers::Answer;
 use answers::Refusal;
-pub use field::Kind;
+use field::Kind;
 pub use field::below;
-pub use field::kind_of;
+pub use field::compare;
+pub use field::holds_code;
+pub use field::is_empty;
+use field::kind_of;
 pub use field::same;
 pub use packer::Packer;
 pub use packer::byte_after;
@@ -54,11 +58,10 @@ impl Code {
         ensures answer { λ r. ⌜ r ≡ unpackOutcome (now (field .entry)) (now (digits .entry)) .answer ⌝ }
         ensures bytes { λ _. ⌜ now (digits .exit) ≡ unpackOutcome (now (field .entry)) (now (digits .entry)) .bytes ⌝ }
     {
-        match kind_of(field) {
-            Kind::Full => unpack_code(field, digits),
-            Kind::Empty => Answer::Refused(Refusal::NoCode),
-            Kind::Unsound => Answer::Refused(Refusal::NoCode),
+        if holds_code(field) {
+            return unpack_code(field, digits);
         }
+        Answer::Refused(Refusal::NoCode)
     }
 
     // Writes the field of the one code between two sides and answers its number of digits. Refuses 12, 13, 4, 8.
@@ -76,7 +79,7 @@ impl Code {
 
 // Unpacking of a field that holds a code.
 fn unpack_code(field: &[u8], digits: &mut [u8]) -> Answer
-    requires full { ⌜ kindOf (read (now field)) ≡ Kind.Full ⌝ }
+    requires held { ⌜ codeHeld? (read (now field)) ≡ true ⌝ }
     ensures answer { λ r. ⌜ r ≡ unpackOutcome (now (field .entry)) (now (digits .entry)) .answer ⌝ }
     ensures bytes { λ _. ⌜ now (digits .exit) ≡ unpackOutcome (now (field .entry)) (now (digits .entry)) .bytes ⌝ }
 {
@@ -111,7 +114,7 @@ fn between_sides(left: &[u8], right: &[u8], field: &mut [u8]) -> Answer
 
 // The code that a field holds, spread out.
 pub fn code_of(field: &[u8]) -> Code
-    requires full { ⌜ kindOf (read (now field)) ≡ Kind.Full ⌝ }
+    requires held { ⌜ codeHeld? (read (now field)) ≡ true ⌝ }
     ensures held { λ r. ⌜ Held r (sideOf (read (now (field .entry)))) ⌝ }
     ensures short { λ r. ⌜ Short r ⌝ }
 {

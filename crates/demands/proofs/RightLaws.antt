@@ -8,11 +8,11 @@ use Prim.Native.Nat.{ℕ, suc, _+_, _<_}
 use native.Mathlib.Omega.{arith}
 use lib.IntN.{ℤ}
 use lib.ListN.{length, getD, List·getD-map}
-use Rattle.digits.specs.Order.{Digits}
+use Rattle.digits.specs.Order.{Digits, orderBy}
 use Rattle.answers.specs.Signed.{yesNo}
 use Rattle.codes.specs.Reading.{same?}
 use Rattle.codes.proofs.ReadingLaws.{same?-true, same?-refl}
-use Rattle.labels.specs.Questions.{orderBy, order, above?, parent?, sibling?, orderAnswer, aboveAnswer, parentAnswer, siblingAnswer}
+use Rattle.labels.specs.Questions.{order, above?, parent?, sibling?, orderAnswer, aboveAnswer, parentAnswer, siblingAnswer}
 use Rattle.labels.proofs.RelationLaws.{Ordered, before, same, behind, ordered, above→, →above}
 use Rattle.trees.specs.Lists.{Member}
 use Rattle.trees.specs.Forest.{Forest, size, preorder}

@@ -7,8 +7,9 @@ use mathlib.Core.List.{[], _∷_, _++_, append-nil, append-assoc}
 use Prim.Native.Nat.{ℕ, zero, suc, _<_, compare, Ordering, Ordering·lt, Ordering·eq, Ordering·gt, compare·zero-zero, compare·zero-suc, compare·suc-zero, compare·suc-suc}
 use native.Mathlib.Omega.{arith}
 use lib.Dec.{T}
+use lib.IntN.{pos, negsuc}
 use lib.ListN.{length}
-use Rattle.digits.specs.Order.{Digits, Below, Prefix, belowAt, below?}
+use Rattle.digits.specs.Order.{Digits, Below, Prefix, belowAt, below?, orderBy}
 
 -- what a comparison of two numbers says of them
 pub data Compared (a b : ℕ) : Ordering → Type 0 where
@@ -180,3 +181,14 @@ below-cases (a ∷ x) (b ∷ y) (inr (e, h)) = go (below-cases x y h)
       right-is = cc (d .right-is);
       less = d .less;
     }
+
+-- a small signed number by the two tests
+module _ (x y : Digits) where
+  pub order-below : below? x y ≡ true → negsuc 0 ≡ orderBy x y
+  order-below e = sym (rw e refl)
+
+  pub order-above : below? x y ≡ false → below? y x ≡ true → pos 1 ≡ orderBy x y
+  order-above e f = sym (rw (e, f) refl)
+
+  pub order-same : below? x y ≡ false → below? y x ≡ false → pos 0 ≡ orderBy x y
+  order-same e f = sym (rw (e, f) refl)

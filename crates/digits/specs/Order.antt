@@ -2,9 +2,10 @@
 -- Assumes nothing.
 use mathlib.Core.Path.{_≡_}
 use mathlib.Core.Logic.{_⊎_}
-use mathlib.Core.Bool.{Bool, true, false}
+use mathlib.Core.Bool.{Bool, true, false, cond}
 use mathlib.Core.List.{List, [], _∷_, _++_}
 use Prim.Native.Nat.{ℕ, _<_, compare, Ordering, Ordering·lt, Ordering·eq, Ordering·gt}
+use lib.IntN.{ℤ, pos, negsuc}
 
 abbrev pub Digits : Type 0
 Digits = List ℕ
@@ -32,3 +33,7 @@ below? [] [] = false
 below? [] (b ∷ y) = true
 below? (a ∷ x) [] = false
 below? (a ∷ x) (b ∷ y) = let rest = below? x y in belowAt (compare a b) rest
+
+-- 01: minus one, zero or plus one
+abbrev pub orderBy : Digits → Digits → ℤ
+orderBy x y = cond (below? x y) (negsuc 0) (cond (below? y x) (pos 1) (pos 0))

@@ -13,12 +13,10 @@ use Rattle.digits.specs.Order.{Digits, Below, below?}
 use Rattle.digits.proofs.OrderLaws.{below?→}
 use Rattle.codes.specs.Code.{fieldSize, IsCode}
 use Rattle.codes.specs.Field.{fieldOf}
-use Rattle.codes.specs.declared.field.Kind.{Kind}
-use Rattle.codes.specs.declared.field.Kind.the-variants.{Full, Empty, Unsound}
-use Rattle.codes.specs.Reading.{Reading, code, empty, unsound, read, kindOf, sideOf}
-use Rattle.codes.proofs.ReadingLaws.{Sided, read-code, read-empty}
-use Rattle.codes.proofs.CallLaws.{known-code, full-below}
-use Rattle.labels.specs.Label.{startAt, endAt, parentAt, labelSize, fieldAt, Label, labelOf, codeHeld?, parentSound?, soundAs?, sound?}
+use Rattle.codes.specs.Reading.{Reading, code, empty, unsound, read, codeHeld?, emptyHeld?, sideOf}
+use Rattle.codes.proofs.ReadingLaws.{Sided, read-code, read-empty, held-code}
+use Rattle.codes.proofs.CallLaws.{full-below, held-below}
+use Rattle.labels.specs.Label.{startAt, endAt, parentAt, labelSize, fieldAt, Label, labelOf, parentSound?, soundAs?, sound?}
 
 pub field-size : (b : List ℕ) (at : ℕ) → at + fieldSize ≤ length b → length (fieldAt at b) ≡ fieldSize
 field-size b at h = simp (length-take, length-drop) (omega arith)
@@ -27,51 +25,16 @@ field-size b at h = simp (length-take, length-drop) (omega arith)
 pub below?-holds : (x y : Digits) → below? x y ≡ true → Below x y
 below?-holds x y e = below?→ x y (rw e tt)
 
--- a field that holds a code
-abbrev fullKind : Kind → Bool
-fullKind Full = true
-fullKind Empty = false
-fullKind Unsound = false
+-- a parent start that is a code, and any other
+pub parent-code : (parent start : List ℕ) → codeHeld? (read parent) ≡ true → codeHeld? (read start) ≡ true
+    → below? parent start ≡ parentSound? (read parent) (sideOf (read start))
+parent-code parent start h k =
+    held-below parent start h k ∙ sym (ap (λ (r : Reading). parentSound? r (sideOf (read start))) (held-code (read parent) h))
 
-held-kind : (r : Reading) → fullKind (kindOf r) ≡ codeHeld? r
-held-kind (code x) = refl
-held-kind empty = refl
-held-kind unsound = refl
-
-pub kind-held : (field : List ℕ) (k : Kind) → kindOf (read field) ≡ k → fullKind k ≡ codeHeld? (read field)
-kind-held field k e = ap fullKind (sym e) ∙ held-kind (read field)
-
-pub held-code : (r : Reading) → codeHeld? r ≡ true → r ≡ code (sideOf r)
-held-code (code x) h = refl
-held-code empty h = absurd (false≢true h)
-held-code unsound h = absurd (false≢true h)
-
-pub held-size : (field : List ℕ) → codeHeld? (read field) ≡ true → length field ≡ fieldSize
-held-size field h = known-code field _ (held-code (read field) h) .size
-
--- two fields that hold codes compare as their digits
-pub held-below : (left right : List ℕ) → codeHeld? (read left) ≡ true → codeHeld? (read right) ≡ true
-    → below? left right ≡ below? (sideOf (read left)) (sideOf (read right))
-held-below left right h k = full-below left right _ _ (held-code (read left) h) (held-code (read right) k)
-
--- a parent start, by what its field holds
-abbrev parentAs : Kind → Bool → Bool
-parentAs Full below = below
-parentAs Empty below = true
-parentAs Unsound below = false
-
-parent-read : (parent start : List ℕ) → codeHeld? (read start) ≡ true
-    → parentSound? (read parent) (sideOf (read start)) ≡ parentAs (kindOf (read parent)) (below? parent start)
-parent-read parent start h = go (read parent) refl
-  where
-    go : (r : Reading) → read parent ≡ r → parentSound? r (sideOf (read start)) ≡ parentAs (kindOf r) (below? parent start)
-    go (code x) e = sym (full-below parent start x _ e (held-code (read start) h))
-    go empty e = refl
-    go unsound e = refl
-
-pub parent-kind : (parent start : List ℕ) (k : Kind) → codeHeld? (read start) ≡ true → kindOf (read parent) ≡ k
-    → parentAs k (below? parent start) ≡ parentSound? (read parent) (sideOf (read start))
-parent-kind parent start k h e = sym (parent-read parent start h ∙ ap (λ (m : Kind). parentAs m (below? parent start)) e)
+pub parent-none : (parent : Reading) (start : Digits) → codeHeld? parent ≡ false → emptyHeld? parent ≡ parentSound? parent start
+parent-none (code x) start h = absurd (false≢true (sym h))
+parent-none empty start h = refl
+parent-none unsound start h = refl
 
 -- what a sound label holds
 pub record Sound (b : List ℕ) (u : Label) : Type 0 where

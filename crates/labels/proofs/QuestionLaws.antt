@@ -8,8 +8,8 @@ use Prim.Native.Nat.{ℕ}
 use native.Mathlib.Omega.{arith}
 use lib.ListN.{length, drop, getD}
 use lib.Seq.{getD-take, getD-drop}
-use lib.IntN.{ℤ, pos, negsuc}
-use Rattle.digits.specs.Order.{Digits, below?}
+use lib.IntN.{ℤ}
+use Rattle.digits.specs.Order.{Digits, below?, orderBy}
 use Rattle.digits.proofs.CodeLaws.{formed-length}
 use Rattle.answers.specs.declared.Refusal.the-variants as refusals
 use Rattle.answers.specs.Number.{numberOf}
@@ -46,16 +46,6 @@ module _ (b c : List ℕ) (p : sound? b ≡ true) (q : sound? c ≡ true) where
   t : Sound c v
   t = sound→ c q
 
-  -- the order by two tests
-  pub order-below : below? (u .start) (v .start) ≡ true → negsuc 0 ≡ order u v
-  order-below e = sym (rw e refl)
-
-  pub order-above : below? (u .start) (v .start) ≡ false → below? (v .start) (u .start) ≡ true → pos 1 ≡ order u v
-  order-above e f = sym (rw (e, f) refl)
-
-  pub order-same : below? (u .start) (v .start) ≡ false → below? (v .start) (u .start) ≡ false → pos 0 ≡ order u v
-  order-same e f = sym (rw (e, f) refl)
-
   -- above by two tests
   pub above-no : below? (u .start) (v .start) ≡ false → false ≡ above? u v
   above-no e = sym (rw e refl)
@@ -64,6 +54,18 @@ module _ (b c : List ℕ) (p : sound? b ≡ true) (q : sound? c ≡ true) where
   above-by r e f = sym (rw (e, f) refl)
 
   -- tests on two fields, by what they say of the labels; x and y are the fields lent, r is what the test answered
+  pub starts-order : (x y : List ℕ) (r : ℤ) → x ≡ fieldAt startAt b → y ≡ fieldAt startAt c → r ≡ orderBy x y → r ≡ order u v
+  starts-order x y r e f h =
+      h
+      ∙ rw (
+        e,
+        f,
+        s .start-field,
+        t .start-field,
+        below?-field (u .start) (v .start) (s .start-code) (t .start-code),
+        below?-field (v .start) (u .start) (t .start-code) (s .start-code),
+      ) refl
+
   pub start-below : (x y : List ℕ) (r : Bool) → x ≡ fieldAt startAt b → y ≡ fieldAt startAt c → r ≡ below? x y
       → below? (u .start) (v .start) ≡ r
   start-below x y r e f h =

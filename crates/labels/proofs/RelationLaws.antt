@@ -7,12 +7,12 @@ use mathlib.Core.List.{List, []}
 use Prim.Native.Nat.{ℕ}
 use native.Mathlib.Omega.{arith}
 use lib.IntN.{ℤ, pos, negsuc, negℤ}
-use Rattle.digits.specs.Order.{Digits, Below, below?}
+use Rattle.digits.specs.Order.{Digits, Below, below?, orderBy}
 use Rattle.digits.proofs.OrderLaws.{below-irrefl, below-trans, below-asym, below-three, Three, lower, equal, upper, below?-true, below?-false}
 use Rattle.codes.specs.Reading.{same?}
 use Rattle.codes.proofs.ReadingLaws.{same?-true, same?-refl}
 use Rattle.labels.specs.Label.{Label}
-use Rattle.labels.specs.Questions.{orderBy, order, above?, orphan?, parent?, sibling?}
+use Rattle.labels.specs.Questions.{order, above?, orphan?, parent?, sibling?}
 use Rattle.labels.proofs.LabelLaws.{Sound, below?-holds}
 
 -- which of the three answers order gives, and when

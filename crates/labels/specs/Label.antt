@@ -39,11 +39,6 @@ labelOf bytes = record {
   parent = sideOf (read (fieldAt parentAt bytes));
 }
 
-abbrev pub codeHeld? : Reading → Bool
-codeHeld? (code x) = true
-codeHeld? empty = false
-codeHeld? unsound = false
-
 -- 01, Label: the parent start is empty or a code below start
 abbrev pub parentSound? : Reading → Digits → Bool
 parentSound? (code parent) start = below? parent start

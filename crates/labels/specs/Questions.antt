@@ -3,8 +3,8 @@
 use mathlib.Core.Bool.{Bool, cond, not, _&&_}
 use mathlib.Core.List.{List, []}
 use Prim.Native.Nat.{ℕ}
-use lib.IntN.{ℤ, pos, negsuc}
-use Rattle.digits.specs.Order.{Digits, below?}
+use lib.IntN.{ℤ}
+use Rattle.digits.specs.Order.{orderBy, below?}
 use Rattle.answers.specs.declared.Refusal.the-variants as refusals
 use Rattle.answers.specs.Number.{numberOf}
 use Rattle.answers.specs.Signed.{refusedAs, yesNo}
@@ -12,9 +12,6 @@ use Rattle.codes.specs.Reading.{same?}
 use Rattle.labels.specs.Label.{Label, labelOf, sound?}
 
 -- 01: minus one, zero or plus one by start
-abbrev pub orderBy : Digits → Digits → ℤ
-orderBy x y = cond (below? x y) (negsuc 0) (cond (below? y x) (pos 1) (pos 0))
-
 abbrev pub order : Label → Label → ℤ
 order u v = orderBy (u .start) (v .start)
 

@@ -5,15 +5,15 @@ ghost use Prim.Native.Nat.{_+_, _≤_};
 ghost use lib.ListN.{length};
 ghost use Rattle.answers.specs.Signed.{yesNo};
 ghost use Rattle.codes.specs.Code.{fieldSize};
-ghost use Rattle.codes.specs.Reading.{read, sideOf};
-ghost use Rattle.labels.specs.Label.{fieldAt, labelOf, codeHeld?, parentSound?, sound?};
+ghost use Rattle.codes.specs.Reading.{read, codeHeld?, sideOf};
+ghost use Rattle.labels.specs.Label.{fieldAt, labelOf, parentSound?, sound?};
 ghost use Rattle.labels.specs.Questions.{order as orderOf, above?, parent?, sibling?};
 ghost use Rattle.labels.specs.Questions.{orderAnswer, aboveAnswer, parentAnswer, siblingAnswer};
 use answers::Refusal;
 use codes::Code;
-use codes::Kind;
 use codes::below;
-use codes::kind_of;
+use codes::holds_code;
+use codes::is_empty;
 use codes::same;
 
 // Where a label's fields begin, and how many bytes it has.
@@ -75,15 +75,7 @@ fn order_of(u: &[u8], v: &[u8]) -> i32
     requires sound { ⌜ (sound? (now u) ≡ true) × (sound? (now v) ≡ true) ⌝ }
     ensures order { λ r. ⌜ r ≡ orderOf (labelOf (now (u .entry))) (labelOf (now (v .entry))) ⌝ }
 {
-    let x = field(u, START);
-    let y = field(v, START);
-    if below(x, y) {
-        return -1;
-    }
-    if below(y, x) {
-        return 1;
-    }
-    0
+    codes::compare(field(u, START), field(v, START))
 }
 
 fn is_above(u: &[u8], v: &[u8]) -> bool
@@ -150,26 +142,15 @@ pub fn sound(label: &[u8]) -> bool
     false
 }
 
-fn holds_code(field: &[u8]) -> bool
-    ensures code { λ r. ⌜ r ≡ codeHeld? (read (now (field .entry))) ⌝ }
-{
-    match kind_of(field) {
-        Kind::Full => true,
-        Kind::Empty => false,
-        Kind::Unsound => false,
-    }
-}
-
 // Whether a parent start is empty or a code below a start.
 fn parent_sound(parent: &[u8], start: &[u8]) -> bool
     requires start { ⌜ codeHeld? (read (now start)) ≡ true ⌝ }
     ensures sound { λ r. ⌜ r ≡ parentSound? (read (now (parent .entry))) (sideOf (read (now (start .entry)))) ⌝ }
 {
-    match kind_of(parent) {
-        Kind::Full => below(parent, start),
-        Kind::Empty => true,
-        Kind::Unsound => false,
+    if holds_code(parent) {
+        return below(parent, start);
     }
+    is_empty(parent)
 }
 
 // The field of a label that begins at a place.

@@ -13,12 +13,11 @@ use Rattle.digits.proofs.OrderLaws.{Compared, lt, eq, gt, compared}
 use Rattle.numbers.proofs.PutLaws.{take-drop}
 use Rattle.codes.specs.Code.{fieldSize, IsCode}
 use Rattle.codes.specs.Field.{fieldOf}
-use Rattle.codes.specs.declared.field.Kind.{Kind}
-use Rattle.codes.specs.declared.field.Kind.the-variants.{Full, Empty, Unsound}
-use Rattle.codes.specs.Reading.{read, sideOf, kindOf, same?}
+use Rattle.codes.specs.Reading.{read, sideOf, codeHeld?, emptyHeld?, same?}
 use Rattle.codes.proofs.ReadingLaws.{read-field, read-nothing, same?-field}
-use Rattle.labels.specs.Label.{labelSize, startAt, endAt, parentAt, fieldAt, codeHeld?, labelOf}
-use Rattle.labels.proofs.LabelLaws.{sound→, held-code, held-below}
+use Rattle.labels.specs.Label.{labelSize, startAt, endAt, parentAt, fieldAt, labelOf}
+use Rattle.codes.proofs.CallLaws.{held-below}
+use Rattle.labels.proofs.LabelLaws.{sound→}
 use Rattle.registers.specs.Layout.{entryPlace, labelAt, startPlace, endPlace, parentPlace, HasPlace}
 use Rattle.registers.specs.Entries.{codeAt}
 use Rattle.registers.specs.Sound.{labelBytes, soundLabel?, soundLabels?, CodeAt, SideAt, HasEntries, HasLabels}
@@ -84,10 +83,6 @@ sound-at b i h t =
 pub side-held : (b : List ℕ) (at : ℕ) → SideAt b at → IsCode (codeAt b at) → CodeAt b at
 side-held b at s c = (s .inside, code-held b at (codeAt b at) c (s .field))
 
--- a field that holds a code is full
-pub code-full : (b f : List ℕ) (at : ℕ) → CodeAt b at → f ≡ fieldAt at b → kindOf (read f) ≡ Full
-code-full b f at h e = ap (λ (z : List ℕ). kindOf (read z)) e ∙ ap kindOf (held-code (read (fieldAt at b)) (h .1))
-
 -- two fields compare as their codes
 pub codes-below : (b f g : List ℕ) (x y : ℕ) → CodeAt b x → CodeAt b y → f ≡ fieldAt x b → g ≡ fieldAt y b
     → below? f g ≡ below? (codeAt b x) (codeAt b y)
@@ -150,24 +145,14 @@ labels-fail b n i h e = go (soundLabels? b n) refl
 pub label-codes : (b : List ℕ) (n i : ℕ) → HasLabels b n → i < n → SoundAt b i
 label-codes b n i h k = sound-at b i (has-place b n i (h .0) k) (label-sound b n i (h .1) k)
 
--- an empty field by its kind
-abbrev emptyKind : Kind → Bool
-emptyKind Full = false
-emptyKind Empty = true
-emptyKind Unsound = false
-
+-- an empty field has no code
 code-some : (x : Digits) → IsCode x → same? x [] ≡ false
 code-some [] c = absurd (c .formed)
 code-some (d ∷ x) c = refl
 
-side-kind : (b : List ℕ) (at : ℕ) → SideAt b at → emptyKind (kindOf (read (fieldAt at b))) ≡ same? (codeAt b at) []
-side-kind b at s = go (s .side)
+pub side-empty : (b f : List ℕ) (at : ℕ) → SideAt b at → f ≡ fieldAt at b → emptyHeld? (read f) ≡ same? (codeAt b at) []
+side-empty b f at s e = ap (λ (z : List ℕ). emptyHeld? (read z)) e ∙ go (s .side)
   where
-    go : (codeAt b at ≡ []) ⊎ IsCode (codeAt b at) → emptyKind (kindOf (read (fieldAt at b))) ≡ same? (codeAt b at) []
-    go (inl e) =
-        ap (λ r. emptyKind (kindOf r)) (ap read (s .field ∙ ap fieldOf e) ∙ read-nothing) ∙ sym (ap (λ x. same? x []) e)
-    go (inr c) = ap (λ r. emptyKind (kindOf r)) (ap read (s .field) ∙ read-field (codeAt b at) c) ∙ sym (code-some (codeAt b at) c)
-
-pub empty-kind : (b f : List ℕ) (at : ℕ) (k : Kind) → SideAt b at → f ≡ fieldAt at b → k ≡ kindOf (read f)
-    → emptyKind k ≡ same? (codeAt b at) []
-empty-kind b f at k s e g = ap emptyKind (g ∙ ap (λ z. kindOf (read z)) e) ∙ side-kind b at s
+    go : (codeAt b at ≡ []) ⊎ IsCode (codeAt b at) → emptyHeld? (read (fieldAt at b)) ≡ same? (codeAt b at) []
+    go (inl h) = ap emptyHeld? (ap read (s .field ∙ ap fieldOf h) ∙ read-nothing) ∙ sym (ap (λ (x : Digits). same? x []) h)
+    go (inr c) = ap emptyHeld? (ap read (s .field) ∙ read-field (codeAt b at) c) ∙ sym (code-some (codeAt b at) c)

@@ -9,8 +9,8 @@ use lib.ListN.{length, take, drop}
 use Rattle.digits.specs.Order.{Digits, below?}
 use Rattle.codes.specs.Code.{fieldSize, IsCode, code?}
 use Rattle.codes.specs.Field.{fieldOf}
-use Rattle.codes.specs.Reading.{read, same?}
-use Rattle.labels.specs.Label.{labelSize, fieldAt, codeHeld?, sound?}
+use Rattle.codes.specs.Reading.{read, codeHeld?, same?}
+use Rattle.labels.specs.Label.{labelSize, fieldAt, sound?}
 use Rattle.trees.specs.Labelled.{Name, Entry, starts, ends}
 use Rattle.trees.specs.Check.{under?, Rest, rest, fault, rowWalk, treeWalk?}
 use Rattle.registers.specs.declared.walk.Walked.{Walked}

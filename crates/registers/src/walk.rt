@@ -14,7 +14,6 @@ use crate::ENTRY_LABEL;
 use crate::entry_place;
 ghost use Rattle.registers.specs.Questions.{aboveEntry?};
 use codes::Code;
-use codes::Kind;
 use labels::END;
 use labels::LABEL;
 use labels::PARENT;
@@ -65,11 +64,7 @@ fn orphan(register: &[u8]) -> bool
     requires label { ⌜ soundLabel? (now register) 0 ≡ true ⌝ }
     ensures orphan { λ r. ⌜ r ≡ same? (codeAt (now (register .entry)) (parentPlace 0)) [] ⌝ }
 {
-    match codes::kind_of(labels::field(register, parent_place(0))) {
-        Kind::Empty => true,
-        Kind::Full => false,
-        Kind::Unsound => false,
-    }
+    codes::is_empty(labels::field(register, parent_place(0)))
 }
 
 // An entry under its parent, between the code at `low` and its parent's end, with its row of children.

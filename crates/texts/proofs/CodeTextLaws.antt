@@ -14,11 +14,11 @@ use Rattle.answers.specs.declared.Refusal.{Refusal}
 use Rattle.numbers.specs.Bytes.{put}
 use Rattle.numbers.proofs.PutLaws.{put-run, put-length, put-snoc}
 use Rattle.codes.specs.Code.{longest, IsCode}
-use Rattle.codes.specs.Reading.{Reading, code, empty, unsound, read, kindOf, sideOf}
+use Rattle.codes.specs.Reading.{Reading, code, empty, unsound, read, codeHeld?, sideOf}
 use Rattle.codes.specs.Calls.{unpackOutcome}
 use Rattle.codes.proofs.FieldLaws.{formed-quaternary}
 use Rattle.codes.proofs.ReadingLaws.{read-code}
-use Rattle.codes.proofs.CallLaws.{known-code, unpack-written, unpack-empty, unpack-unsound}
+use Rattle.codes.proofs.CallLaws.{known-code, unpack-written, unpack-none}
 use Rattle.trees.proofs.ListLaws.{map-append}
 use Rattle.texts.specs.Printed.{dash, digitByte, codeText}
 
@@ -76,8 +76,8 @@ module _ (field lent : List ℕ) (room : longest ≤ length lent) (answer : Answ
             digits = rw (m, l, s) (put-run lent 0 x (omega arith));
             fits = omega (arith, ap length l, put-length lent 0 x (omega arith));
           }
-      go empty h = let w = unpack-empty field lent (ap kindOf h) in let z : _≡_ {A = ℕ} 0 1 = cc in absurd (omega arith)
-      go unsound h = let w = unpack-unsound field lent (ap kindOf h) in let z : _≡_ {A = ℕ} 0 1 = cc in absurd (omega arith)
+      go empty h = let w = unpack-none field lent (ap codeHeld? h) in let z : _≡_ {A = ℕ} 0 1 = cc in absurd (omega arith)
+      go unsound h = let w = unpack-none field lent (ap codeHeld? h) in let z : _≡_ {A = ℕ} 0 1 = cc in absurd (omega arith)
 
 -- what `digits_at` leaves is the code's text
 pub code-stored : (field : List ℕ) (n : ℕ) (left out mid : List ℕ) (at end : ℕ) → Unpacked field n left

@@ -4,9 +4,10 @@ use mathlib.Core.Bool.{Bool}
 use mathlib.Core.List.{List}
 use Prim.Native.Nat.{ℕ}
 use Rattle.digits.specs.Order.{below?}
-use Rattle.codes.specs.Reading.{read, sideOf}
-use Rattle.labels.specs.Label.{startAt, endAt, fieldAt, codeHeld?, parentSound?}
-use Rattle.labels.proofs.LabelLaws.{held-size, sound-size, sound-start, sound-end, sound-span, sound-parent}
+use Rattle.codes.specs.Reading.{read, codeHeld?, sideOf}
+use Rattle.labels.specs.Label.{startAt, endAt, fieldAt, parentSound?}
+use Rattle.codes.proofs.CallLaws.{held-known}
+use Rattle.labels.proofs.LabelLaws.{sound-size, sound-start, sound-end, sound-span, sound-parent}
 use borrow.Author.Needs.{needs}
 use Rattle.labels.proofs.sound.Statement.{statement}
 use Rattle.labels.proofs.sound.Tie as tie
@@ -53,8 +54,8 @@ span-held c r e =
 below-requires : tie.Need-below-requires
 below-requires c κs =
     let e = c .before in
-    let s = held-size _ (sym (e .before .before .holds-code .ensures) ∙ e .before .if2 .taken) in
-    (s, held-size _ (sym (e .holds-code2 .ensures) ∙ c .if3 .taken))
+    let s = held-known _ (sym (e .before .before .holds-code .ensures) ∙ e .before .if2 .taken) in
+    (s .size, held-known _ (sym (e .holds-code2 .ensures) ∙ c .if3 .taken) .size)
 
 parent-sound-requires : tie.Need-parent-sound-requires
 parent-sound-requires c κs =

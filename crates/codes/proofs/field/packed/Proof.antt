@@ -1,9 +1,8 @@
 -- The words from the last to the first: zero, or the end of a code with full words before it.
 -- Assumes nothing.
-use mathlib.Core.Path.{refl}
 use borrow.Author.Tests.{eq-eqb, ne-eqb}
 use borrow.Author.Needs.{needs}
-use Rattle.codes.proofs.DigitLaws.{zeros-last}
+use Rattle.codes.proofs.DigitLaws.{last-blank}
 use Rattle.codes.proofs.field.packed.Statement.{statement}
 use Rattle.codes.proofs.field.packed.Tie as tie
 
@@ -49,8 +48,11 @@ returns-3 c =
     let at = c .before .before .before .before .before in
     rw (eq-eqb _ _ (at .before .if1 .taken), ne-eqb _ _ (at .if2 .left)) cc
 
+blanks-requires : tie.Need-blanks-requires
+blanks-requires c κs = search needs
+
 end-above-requires : tie.Need-end-above-requires
-end-above-requires c κs = refl
+end-above-requires c κs = (c .blanks .ensures, c .before .if1 .left)
 
 full-word-requires-4 : tie.Need-full-word-requires-4
 full-word-requires-4 c κs = search needs
@@ -78,8 +80,9 @@ returns-4 c =
     let both = c .before .before .before in
     let words = both .before .before .before in
     rw (
-      ne-eqb _ _ (words .before .before .if1 .left),
-      ← zeros-last (words .before .before .before .args .d),
+      ne-eqb _ _ (words .before .before .before .if1 .left),
+      ← last-blank 32 (words .before .before .before .before .args .d) _,
+      ← words .before .before .blanks .ensures,
       ← words .before .end-above .ensures,
       ← words .full-word4 .ensures,
       ← both .before .before .full-word5 .ensures,
@@ -106,6 +109,7 @@ packed-spec =
     also-requires-2
     also-requires-3
     returns-3
+    blanks-requires
     end-above-requires
     full-word-requires-4
     full-word-requires-5

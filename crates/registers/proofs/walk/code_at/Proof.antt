@@ -1,10 +1,9 @@
 -- `code_at` meets its contract. Assumes nothing.
-use mathlib.Core.Path.{subst}
+use mathlib.Core.Path.{ap, _∙_, subst}
 use mathlib.Core.List.{List}
 use Prim.Native.Nat.{ℕ}
-use Rattle.codes.specs.Reading.{read, sideOf}
+use Rattle.codes.specs.Reading.{read, codeHeld?, sideOf}
 use Rattle.codes.specs.Spread.{Held}
-use Rattle.registers.proofs.SoundLaws.{code-full}
 use borrow.Author.Needs.{needs}
 use Rattle.registers.proofs.walk.code_at.Statement.{statement}
 use Rattle.registers.proofs.walk.code_at.Tie as tie
@@ -13,7 +12,7 @@ field-requires : tie.Need-field-requires
 field-requires c κs = search needs
 
 code-of-requires : tie.Need-code-of-requires
-code-of-requires c κs = code-full _ _ _ (c .before .before .pre) (c .field .ensures .0)
+code-of-requires c κs = ap (λ (z : List ℕ). codeHeld? (read z)) (c .field .ensures .0) ∙ c .before .before .pre .1
 
 returns : tie.Need-returns
 returns c =
