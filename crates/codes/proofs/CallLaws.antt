@@ -61,7 +61,7 @@ known-code field x e =
       fits = k .0 .fits;
     }
 
-pub known-empty : (field : List ℕ) → read field ≡ empty → Known field []
+known-empty : (field : List ℕ) → read field ≡ empty → Known field []
 unfolding fieldOf
 known-empty field e =
     let k = read-empty field e in
@@ -108,7 +108,7 @@ module _ (field lent : List ℕ) where
   unpack-written x e h = rw (e, le-leb (length x) (length lent) h)
 
 -- how two sides stand by their kinds, and by their bytes where both are full
-abbrev pub sidesAs : Kind → Kind → Bool → Sides
+abbrev sidesAs : Kind → Kind → Bool → Sides
 sidesAs Unsound right below = NoSide
 sidesAs Empty Unsound below = NoSide
 sidesAs Empty Empty below = Ordered

@@ -25,7 +25,7 @@ zeros? [] = true
 zeros? (d ∷ x) = eqb d 0 && zeros? x
 
 -- no digit is zero
-abbrev pub firm? : Digits → Bool
+abbrev firm? : Digits → Bool
 firm? [] = true
 firm? (d ∷ x) = firm? x && not (eqb d 0)
 
@@ -101,7 +101,7 @@ ended-number (d ∷ x) h =
 
 -- The digits of bytes.
 
-pub spread-append : (x y : List ℕ) → spread (x ++ y) ≡ spread x ++ spread y
+spread-append : (x y : List ℕ) → spread (x ++ y) ≡ spread x ++ spread y
 spread-append [] y = refl
 spread-append (a ∷ x) y = rw (spread-append x y)
 
@@ -114,7 +114,7 @@ spread-quaternary [] h = tt
 spread-quaternary (a ∷ b) h = (omega arith, (omega arith, (omega arith, (omega arith, spread-quaternary b (h .1)))))
 
 -- the last digit of a byte
-pub spread-fourth : (b : List ℕ) (i : ℕ) → getD (spread b) (suc (suc (suc (four i)))) 0 ≡ getD b i 0 % 4
+spread-fourth : (b : List ℕ) (i : ℕ) → getD (spread b) (suc (suc (suc (four i)))) 0 ≡ getD b i 0 % 4
 spread-fourth [] i = refl
 spread-fourth (a ∷ b) zero = refl
 spread-fourth (a ∷ b) (suc i) = spread-fourth b i

@@ -196,7 +196,7 @@ ends-here v z false e =
     ∙ ap (λ (k : ℕ). k * 4 + 0) (and-self z) in
     rw (p, four-zero z, e) (sym (and-false (leb 2 (v % 4))))
 
-pub ended-blanks : (n v : ℕ) → v < 4 ^ n → ends? v (blanks n v) ≡ ended n v
+ended-blanks : (n v : ℕ) → v < 4 ^ n → ends? v (blanks n v) ≡ ended n v
 unfolding blanks ended
 ended-blanks zero v h =
     let z : v ≡ 0 = omega arith in

@@ -17,7 +17,7 @@ use Rattle.codes.specs.Field.{byteOf, gather, fieldOf, quads, spread, le
 abbrev pub Quaternary : Digits → Type 0
 Quaternary x = All (λ d. d < 4) x
 
-abbrev pub Positive : Digits → Type 0
+abbrev Positive : Digits → Type 0
 Positive x = All (λ d. 0 < d) x
 
 abbrev pub Bytes : List ℕ → Type 0
@@ -33,11 +33,7 @@ abbrev pub pad : ℕ → Digits → Digits
 pad zero x = []
 pad (suc n) x = getD x 0 0 ∷ pad n (drop 1 x)
 
--- the last remainder of a division by 4
-pub last-of-four : (i : ℕ) → (i % 4 ≡ 0 → ⊥) → (i % 4 ≡ 1 → ⊥) → (i % 4 ≡ 2 → ⊥) → i % 4 ≡ 3
-last-of-four i a b c = omega arith
-
-pub byte-quads : (a b c d : ℕ) → a < 4 → b < 4 → c < 4 → d < 4 → quads (byteOf a b c d) ≡ a ∷ b ∷ c ∷ d ∷ []
+byte-quads : (a b c d : ℕ) → a < 4 → b < 4 → c < 4 → d < 4 → quads (byteOf a b c d) ≡ a ∷ b ∷ c ∷ d ∷ []
 byte-quads a b c d ha hb hc hd =
     let p : byteOf a b c d / 64 ≡ a = omega arith in
     let q : byteOf a b c d / 16 % 4 ≡ b = omega arith in
@@ -53,7 +49,7 @@ digit-lt [] i a = omega arith
 digit-lt (d ∷ x) zero a = a .0
 digit-lt (d ∷ x) (suc i) a = digit-lt x i (a .1)
 
-pub quaternary-drop : (x : Digits) (i : ℕ) → Quaternary x → Quaternary (drop i x)
+quaternary-drop : (x : Digits) (i : ℕ) → Quaternary x → Quaternary (drop i x)
 quaternary-drop x zero a = a
 quaternary-drop [] (suc i) a = tt
 quaternary-drop (d ∷ x) (suc i) a = quaternary-drop x i (a .1)
@@ -63,7 +59,7 @@ quaternary-take x zero a = tt
 quaternary-take [] (suc i) a = tt
 quaternary-take (d ∷ x) (suc i) a = (a .0, quaternary-take x i (a .1))
 
-pub pad-four : (n : ℕ) (x : Digits)
+pad-four : (n : ℕ) (x : Digits)
     → pad (suc (suc (suc (suc n)))) x ≡ getD x 0 0 ∷ getD x 1 0 ∷ getD x 2 0 ∷ getD x 3 0 ∷ pad n (drop 4 x)
 pad-four n [] = refl
 pad-four n (a ∷ []) = refl
@@ -71,7 +67,7 @@ pad-four n (a ∷ b ∷ []) = refl
 pad-four n (a ∷ b ∷ c ∷ []) = refl
 pad-four n (a ∷ b ∷ c ∷ d ∷ x) = refl
 
-pub spread-gather : (n : ℕ) (x : Digits) → Quaternary x → spread (gather n x) ≡ pad (four n) x
+spread-gather : (n : ℕ) (x : Digits) → Quaternary x → spread (gather n x) ≡ pad (four n) x
 spread-gather zero x a = refl
 spread-gather (suc n) x a =
     rw (pad-four (four n) x, spread-gather n (drop 4 x) (quaternary-drop x 4 a))
@@ -82,7 +78,7 @@ pub gather-spread : (b : List ℕ) → Bytes b → gather (length b) (spread b) 
 gather-spread [] a = refl
 gather-spread (c ∷ b) a = cc (quads-byte c (a .0), gather-spread b (a .1))
 
-pub gather-length : (n : ℕ) (x : Digits) → length (gather n x) ≡ n
+gather-length : (n : ℕ) (x : Digits) → length (gather n x) ≡ n
 gather-length zero x = refl
 gather-length (suc n) x = ap suc (gather-length n (drop 4 x))
 
@@ -91,7 +87,7 @@ gather-bytes zero x a = tt
 gather-bytes (suc n) x a =
     (omega (arith, digit-lt x 0 a, digit-lt x 1 a, digit-lt x 2 a, digit-lt x 3 a), gather-bytes n (drop 4 x) (quaternary-drop x 4 a))
 
-pub lead-pad : (n : ℕ) (x : Digits) → Positive x → length x ≤ n → lead (pad n x) ≡ x
+lead-pad : (n : ℕ) (x : Digits) → Positive x → length x ≤ n → lead (pad n x) ≡ x
 lead-pad zero [] p h = refl
 lead-pad zero (d ∷ x) p h = absurd (omega arith)
 lead-pad (suc n) [] p h = refl
@@ -103,7 +99,7 @@ formed-quaternary [] s = tt
 formed-quaternary (a ∷ []) s = (omega arith, tt)
 formed-quaternary (a ∷ b ∷ x) s = (omega arith, formed-quaternary (b ∷ x) (s .2))
 
-pub formed-positive : (x : Digits) → Formed 1 3 x → Positive x
+formed-positive : (x : Digits) → Formed 1 3 x → Positive x
 formed-positive [] s = tt
 formed-positive (a ∷ []) s = (omega arith, tt)
 formed-positive (a ∷ b ∷ x) s = (omega arith, formed-positive (b ∷ x) (s .2))
@@ -140,7 +136,7 @@ quad-below a b c d a′ b′ c′ d′ x y p q (inr (e, inr (f, inr (g, inr (h, 
 first-quads : (x : Digits) → Quaternary x → Quads (getD x 0 0) (getD x 1 0) (getD x 2 0) (getD x 3 0)
 first-quads x a = (digit-lt x 0 a, digit-lt x 1 a, digit-lt x 2 a, digit-lt x 3 a)
 
-pub gather-below : (n : ℕ) (x y : Digits) → Quaternary x → Quaternary y → Below (pad (four n) x) (pad (four n) y)
+gather-below : (n : ℕ) (x y : Digits) → Quaternary x → Quaternary y → Below (pad (four n) x) (pad (four n) y)
     → Below (gather n x) (gather n y)
 gather-below zero x y a b h = h
 gather-below (suc n) x y a b h =
@@ -158,20 +154,20 @@ gather-below (suc n) x y a b h =
     go (inl k) r = inl k
     go (inr (e, k)) r = inr (e, r k)
 
-pub pad-below : (n : ℕ) (x y : Digits) → Positive y → length y ≤ n → Below x y → Below (pad n x) (pad n y)
+pad-below : (n : ℕ) (x y : Digits) → Positive y → length y ≤ n → Below x y → Below (pad n x) (pad n y)
 pad-below n x [] p h b = absurd (below-nil x b)
 pad-below zero x (d ∷ y) p h b = absurd (omega arith)
 pad-below (suc n) [] (d ∷ y) p h b = inl (p .0)
 pad-below (suc n) (a ∷ x) (d ∷ y) p h (inl b) = inl b
 pad-below (suc n) (a ∷ x) (d ∷ y) p h (inr (e, b)) = inr (e, pad-below n x y (p .1) (omega arith) b)
 
-pub field-below : (x y : Digits) → IsCode x → IsCode y → Below x y → Below (fieldOf x) (fieldOf y)
+field-below : (x y : Digits) → IsCode x → IsCode y → Below x y → Below (fieldOf x) (fieldOf y)
 unfolding fieldOf
 field-below x y c d b =
     gather-below 32 x y (formed-quaternary x (c .formed)) (formed-quaternary y (d .formed))
     (pad-below 128 x y (formed-positive y (d .formed)) (omega (arith, d .fits)) b)
 
-pub below-field : (x y : Digits) → IsCode x → IsCode y → Below (fieldOf x) (fieldOf y) → Below x y
+below-field : (x y : Digits) → IsCode x → IsCode y → Below (fieldOf x) (fieldOf y) → Below x y
 below-field x y c d b = go (below-three x y)
   where
     go : Three (Below x y) (x ≡ y) (Below y x) → Below x y

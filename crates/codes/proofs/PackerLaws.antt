@@ -11,7 +11,7 @@ use Rattle.codes.specs.Field.{gather, byteOf}
 use Rattle.codes.specs.Packer.{nothing, begun, pushed, Open}
 
 -- what `Open` says at a number, and when it holds
-pub open-at : (p : Packer) (k : ℕ) → p .count % 4 ≡ k → (k ≡ 0 → ⊥) → Open p → p .pending % 4 ^ (4 - k) ≡ 0
+open-at : (p : Packer) (k : ℕ) → p .count % 4 ≡ k → (k ≡ 0 → ⊥) → Open p → p .pending % 4 ^ (4 - k) ≡ 0
 unfolding Open
 open-at p k e not o = rw e at (o (λ z. not (sym e ∙ z)))
 
@@ -33,7 +33,7 @@ module _ (p : Packer) (d n : ℕ) (small : d < 4) (o : Open p) where
   abbrev next : Packer
   next = record { pending = n; count = p .count + 1 }
 
-  pub open-next : (k : ℕ) → k < 4 → p .count % 4 ≡ k → n ≡ begun k (p .pending) + d * 4 ^ (3 - k) → Open next
+  open-next : (k : ℕ) → k < 4 → p .count % 4 ≡ k → n ≡ begun k (p .pending) + d * 4 ^ (3 - k) → Open next
   open-next zero l e h = open-of next 1 (omega arith) (omega arith)
   open-next (suc zero) l e h = let a = open-at p 1 e (λ z. omega arith) o in open-of next 2 (omega arith) (omega arith)
   open-next (suc (suc zero)) l e h = let a = open-at p 2 e (λ z. omega arith) o in open-of next 3 (omega arith) (omega arith)

@@ -76,7 +76,7 @@ abbrev pub Sided : Digits → Type 0
 Sided x = (x ≡ []) ⊎ IsCode x
 
 -- packed, the two are told apart by their bytes and by their first byte
-pub lead-side : (x : Digits) → Sided x → lead (spread (fieldOf x)) ≡ x
+lead-side : (x : Digits) → Sided x → lead (spread (fieldOf x)) ≡ x
 unfolding fieldOf
 lead-side x (inl e) = rw e refl
 lead-side x (inr c) = lead-field x c
@@ -199,10 +199,10 @@ pad-whole n x f h = rw (pad-past (suc n) x n h, pad-closed (suc n) x f (omega ar
 
 -- The kind of a field by its four words.
 
-abbrev pub packedField? : List ℕ → Bool
+abbrev packedField? : List ℕ → Bool
 packedField? b = packed? (wordAt b 0) (wordAt b 8) (wordAt b 16) (wordAt b 24)
 
-abbrev pub blankField? : List ℕ → Bool
+abbrev blankField? : List ℕ → Bool
 blankField? b = eqb (wordAt b 0) 0 && (eqb (wordAt b 8) 0 && (eqb (wordAt b 16) 0 && eqb (wordAt b 24) 0))
 
 module _ (b : List ℕ) (size : length b ≡ fieldSize) (bytes : Bytes b) where

@@ -23,7 +23,7 @@ use Rattle.codes.proofs.spread.Code.{the-type}
 pub whole : (c : Code) (vs : List Val) → Is (row the-type) c vs → length (c .digits) ≡ 128
 whole c vs known = sym (length-map (c .digits) (λ v. v)) ∙ known .1 .1 .0 .1 .0 .1
 
-pub digits-length : (c : Code) → length (c .digits) ≡ 128 → c .count ≤ 128 → length (digitsOf c) ≡ c .count
+digits-length : (c : Code) → length (c .digits) ≡ 128 → c .count ≤ 128 → length (digitsOf c) ≡ c .count
 digits-length c w h = length-take-le (c .count) (c .digits) (omega arith)
 
 pub held-is : (c : Code) (x y : Digits) → x ≡ y → Held c x → Held c y

@@ -24,7 +24,7 @@ number base [] = 0
 number base (a ∷ x) = a * base ^ length x + number base x
 
 -- a smaller digit is a whole unit below
-pub digit-under : (a b unit : ℕ) → a < b → a * unit + unit ≤ b * unit
+digit-under : (a b unit : ℕ) → a < b → a * unit + unit ≤ b * unit
 digit-under a b unit h = rw suc-mul at (mul-le-mul-right {m = suc a} {n = b} unit h)
 
 pub number-lt : (base : ℕ) (x : List ℕ) → All (λ a. a < base) x → number base x < base ^ length x
@@ -74,7 +74,7 @@ module _ (base : ℕ) where
       rw (← e) (compare-digit a b (number base x) (number base y) (base ^ length x) (number-lt base x p) hy)
 
   -- the numbers decide, or what comes after them
-  pub below?-number : (x y r s : List ℕ) → length x ≡ length y → All (λ d. d < base) x → All (λ d. d < base) y
+  below?-number : (x y r s : List ℕ) → length x ≡ length y → All (λ d. d < base) x → All (λ d. d < base) y
       → below? (x ++ r) (y ++ s) ≡ belowAt (compare (number base x) (number base y)) (below? r s)
   unfolding number
   below?-number [] [] r s e p q = refl
@@ -84,7 +84,7 @@ module _ (base : ℕ) where
       rw (below?-number x y r s (omega arith) (p .1) (q .1), compare-cons a b x y (omega arith) (p .1) (q .1))
       (sym (below-then (compare a b) (compare (number base x) (number base y)) (below? r s)))
 
-  pub same?-number : (x y r s : List ℕ) → length x ≡ length y → All (λ d. d < base) x → All (λ d. d < base) y
+  same?-number : (x y r s : List ℕ) → length x ≡ length y → All (λ d. d < base) x → All (λ d. d < base) y
       → same? (x ++ r) (y ++ s) ≡ eqb (number base x) (number base y) && same? r s
   unfolding number
   same?-number [] [] r s e p q = refl
@@ -99,12 +99,12 @@ module _ (base : ℕ) where
       (sym (and-assoc (eqb a b) (eqb (number base x) (number base y)) (same? r s)))
 
 -- a part of a list
-pub all-take : {A : Type 0} (P : A → Type 0) (n : ℕ) (x : List A) → All P x → All P (take n x)
+all-take : {A : Type 0} (P : A → Type 0) (n : ℕ) (x : List A) → All P x → All P (take n x)
 all-take P zero x h = tt
 all-take P (suc n) [] h = tt
 all-take P (suc n) (a ∷ x) h = (h .0, all-take P n x (h .1))
 
-pub all-drop : {A : Type 0} (P : A → Type 0) (n : ℕ) (x : List A) → All P x → All P (drop n x)
+all-drop : {A : Type 0} (P : A → Type 0) (n : ℕ) (x : List A) → All P x → All P (drop n x)
 all-drop P zero x h = h
 all-drop P (suc n) [] h = tt
 all-drop P (suc n) (a ∷ x) h = all-drop P n x (h .1)
@@ -123,7 +123,7 @@ part-bytes b at h = all-take (λ a. a < 256) 8 (drop at b) (all-drop (λ a. a < 
 pub part-length : (b : List ℕ) (at : ℕ) → at + 8 ≤ length b → length (part b at) ≡ 8
 part-length b at h = length-take-le 8 (drop at b) (simp length-drop (omega arith))
 
-pub part-split : (b : List ℕ) (at : ℕ) → part b at ++ drop (at + 8) b ≡ drop at b
+part-split : (b : List ℕ) (at : ℕ) → part b at ++ drop (at + 8) b ≡ drop at b
 part-split b at = rw (← drop-drop 8 at b) (take-append-drop 8 (drop at b))
 
 -- the number of the n bytes from index at on

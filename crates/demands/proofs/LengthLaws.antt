@@ -22,7 +22,7 @@ use Rattle.registers.specs.declared.Found.{Found}
 use Rattle.registers.specs.declared.Found.the-variants.{At, Nothing}
 use Rattle.registers.specs.Layout.{deepest}
 use Rattle.registers.specs.Holds.{identities}
-use Rattle.registers.specs.Questions.{linesOf, registerSound?, foundIn, treeOf}
+use Rattle.registers.specs.Questions.{linesOf, registerSound?, foundIn, treeIn}
 use Rattle.edits.specs.declared.Edit.{Edit}
 use Rattle.edits.specs.declared.Edit.the-variants.{Insert, Delete}
 use Rattle.edits.specs.Splice.{deletedBytes}
@@ -36,9 +36,9 @@ not-refused o n r e k = accepted-refused (sym e ∙ k)
 other-number : (r s : Refusal) → (numberOf r ≡ numberOf s → ⊥) → Refused r ≡ Refused s → ⊥
 other-number r s n e = let z : r ≡ s = cc in n (ap numberOf z)
 
-module _ (b : List ℕ) (m : ℕ) (k : m < longest) (s : Sound (Within 1 3 m) (suc deepest) [] [] [] (treeOf (linesOf b))) where
+module _ (b : List ℕ) (m : ℕ) (k : m < longest) (s : Sound (Within 1 3 m) (suc deepest) [] [] [] (treeIn b)) where
   abbrev f : Forest (Entry Name)
-  f = treeOf (linesOf b)
+  f = treeIn b
 
   put-short : (x : Name) (q : Spot f) → putOutcome b x f q .answer ≡ Refused CodeLength → ⊥
   put-short x q e =

@@ -13,7 +13,7 @@ use Rattle.answers.specs.declared.Answer.the-variants.{Accepted, Refused}
 use Rattle.codes.specs.Field.{fieldOf}
 use Rattle.trees.specs.Lists.{Member}
 use Rattle.trees.specs.Forest.{Forest, size, preorder}
-use Rattle.trees.specs.Labelled.{Name, Entry, plain, codes, labelled, Sound}
+use Rattle.trees.specs.Labelled.{Name, Entry, plain, Sound}
 use Rattle.trees.specs.Edit.{Spot, leaf, put, ahead, behind, spotOf, without}
 use Rattle.trees.specs.Neighbours.{newEntry, insertedEntry}
 use Rattle.trees.proofs.ListLaws.{map-twice, member-left, member-right, member-append}
@@ -108,7 +108,7 @@ module _ (b : List ℕ) (f : Forest (Entry Name)) (h : Holds b f) (m : ℕ) (s :
   accepted-state (Delete target) n a = delete-state target n a
 
 -- one edit, accepted or refused
-pub step-state : (b : List ℕ) (t : Forest Name) (m : ℕ) → State b t m → (e : Edit)
+step-state : (b : List ℕ) (t : Forest Name) (m : ℕ) → State b t m → (e : Edit)
     → State (applyOutcome b e .bytes) (answered (applyOutcome b e .answer) e t) (insertion (applyOutcome b e .answer) e m)
 step-state b t m s e = go (applyOutcome b e .answer) refl
   where

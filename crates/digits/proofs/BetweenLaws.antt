@@ -34,7 +34,7 @@ module _ (f : ℕ → Digits) where
   remade-length k h (d ∷ e ∷ x) s = omega (arith, remade-length k h (e ∷ x) (s .2))
 
   -- what is shorter stays below, or above
-  pub below-remade : ((d : ℕ) → Shape (d ∷ []) → 0 < length (f d)) → (l x : Digits) → Shape x → length l < length x
+  below-remade : ((d : ℕ) → Shape (d ∷ []) → 0 < length (f d)) → (l x : Digits) → Shape x → length l < length x
       → Below l x → Below l (remade f x)
   below-remade h l [] s k b = absurd s
   below-remade h [] (d ∷ []) s k b = below-append [] (f d) (h d s)
@@ -43,7 +43,7 @@ module _ (f : ℕ → Digits) where
   below-remade h (a ∷ l) (d ∷ e ∷ x) s k (inl b) = inl b
   below-remade h (a ∷ l) (d ∷ e ∷ x) s k (inr b) = inr (b .0, below-remade h l (e ∷ x) (s .2) (omega arith) (b .1))
 
-  pub remade-below : (x r : Digits) → length r < length x → Below x r → Below (remade f x) r
+  remade-below : (x r : Digits) → length r < length x → Below x r → Below (remade f x) r
   remade-below [] r k b = absurd (omega arith)
   remade-below (d ∷ []) [] k b = absurd b
   remade-below (d ∷ []) (c ∷ r) k b = absurd (omega arith)
@@ -76,7 +76,7 @@ remade-kept (d ∷ e ∷ x) = ap {B = Digits} (λ l. d ∷ l) (remade-kept (e �
 pub lowered-shape : (r : Digits) → Shape r → Shape (remade lower r)
 lowered-shape = remade-shape lower (last-digit (λ d. Shape (lower d)) (omega arith) (omega arith))
 
-pub lowered-below : (r : Digits) → Shape r → Below (remade lower r) r
+lowered-below : (r : Digits) → Shape r → Below (remade lower r) r
 lowered-below r s =
     rw (remade-kept r) at (remade-order lower kept (last-digit (λ d. Below (lower d) (kept d)) (inl (omega arith)) (inl (omega arith)))
     r s)
@@ -85,15 +85,15 @@ pub below-lowered : (l r : Digits) → Shape r → length l < length r → Below
 below-lowered = below-remade lower (last-digit (λ d. 0 < length (lower d)) (omega arith) (omega arith))
 
 -- L longer: L raised
-pub raised-shape : (l : Digits) → Shape l → Shape (remade raise l)
+raised-shape : (l : Digits) → Shape l → Shape (remade raise l)
 raised-shape = remade-shape raise (last-digit (λ d. Shape (raise d)) (omega arith) (omega arith))
 
-pub below-raised : (l : Digits) → Shape l → Below l (remade raise l)
+below-raised : (l : Digits) → Shape l → Below l (remade raise l)
 below-raised l s =
     rw (remade-kept l) at (remade-order kept raise (last-digit (λ d. Below (kept d) (raise d)) (inl (omega arith)) (inr (refl, tt))) l s)
 
 -- L not shorter: L followed by anything
-pub append-below : (l r c : Digits) → length r ≤ length l → Below l r → Below (l ++ c) r
+append-below : (l r c : Digits) → length r ≤ length l → Below l r → Below (l ++ c) r
 append-below [] [] c h b = absurd b
 append-below [] (y ∷ r) c h b = absurd (omega arith)
 append-below (a ∷ l) [] c h b = absurd b
@@ -129,7 +129,7 @@ inside-at l r Ordering·gt (gt h) g =
 pub between-inside : (l r : Digits) → Gap l r → Inside l r (between l r)
 between-inside l r g = inside-at l r (compare (length l) (length r)) (compared (length l) (length r)) g
 
-pub gap-after : (l r x : Digits) → Gap l r → Inside l r x → Gap x r
+gap-after : (l r x : Digits) → Gap l r → Inside l r x → Gap x r
 gap-after l r x g i = record { left = formed-side 1 3 x (i .shape); right = g .right; order = i .under }
 
 abbrev pub EndsTwo : Digits → Type 0

@@ -13,12 +13,12 @@ use Rattle.digits.specs.Order.{Digits, Below}
 use Rattle.digits.specs.Code.{Formed, formed?, Within, within?, Side, Under, Rising}
 use Rattle.digits.proofs.OrderLaws.{below-trans}
 
-pub and→ : (a b : Bool) → T (a && b) → T a × T b
+and→ : (a b : Bool) → T (a && b) → T a × T b
 and→ true true t = (tt, tt)
 and→ true false t = absurd t
 and→ false b t = absurd t
 
-pub →and : (a b : Bool) → T a → T b → T (a && b)
+→and : (a b : Bool) → T a → T b → T (a && b)
 →and true b t u = u
 →and false b t u = absurd t
 
@@ -28,7 +28,7 @@ under-some x [] n h = absurd (omega arith)
 under-some x (b ∷ y) n h = h
 
 module _ (least symbols : ℕ) where
-  pub formed?→ : (x : Digits) → T (formed? least symbols x) → Formed least symbols x
+  formed?→ : (x : Digits) → T (formed? least symbols x) → Formed least symbols x
   formed?→ [] t = t
   formed?→ (a ∷ []) t =
       let p = and→ (ltb least a) (ltb a (least + symbols)) t in
@@ -38,7 +38,7 @@ module _ (least symbols : ℕ) where
       let q = and→ (leb least a) (ltb a (least + symbols)) (p .0) in
       (leb→le least a (q .0), ltb→lt a (least + symbols) (q .1), formed?→ (b ∷ x) (p .1))
 
-  pub →formed? : (x : Digits) → Formed least symbols x → T (formed? least symbols x)
+  →formed? : (x : Digits) → Formed least symbols x → T (formed? least symbols x)
   →formed? [] s = s
   →formed? (a ∷ []) s = →and (ltb least a) (ltb a (least + symbols)) (lt→ltb least a (s .0)) (lt→ltb a (least + symbols) (s .1))
   →formed? (a ∷ b ∷ x) s =

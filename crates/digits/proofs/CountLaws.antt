@@ -22,7 +22,7 @@ module _ (least symbols : ℕ) (some : 0 < symbols) where
   value (suc h) [] = 0
   value (suc h) (a ∷ x) = (a - least) * symbols ^ h + value h x
 
-  pub value-lt : (h : ℕ) (x : Digits) → Side least symbols x → value h x < symbols ^ h
+  value-lt : (h : ℕ) (x : Digits) → Side least symbols x → value h x < symbols ^ h
   value-lt zero x s = one-le-pow 0 symbols some
   value-lt (suc h) [] s = one-le-pow (suc h) symbols some
   value-lt (suc h) (a ∷ x) s =
@@ -31,7 +31,7 @@ module _ (least symbols : ℕ) (some : 0 < symbols) where
       (digits-lt {q = a - least} {m = symbols} {r = value h x} {c = symbols ^ h} (omega arith)
       (value-lt h x (formed-rest least symbols a x s)))
 
-  pub value-pos : (h : ℕ) (x : Digits) → Formed least symbols x → length x ≤ h → 0 < value h x
+  value-pos : (h : ℕ) (x : Digits) → Formed least symbols x → length x ≤ h → 0 < value h x
   value-pos h [] s k = absurd s
   value-pos zero (a ∷ x) s k = absurd (omega arith)
   value-pos (suc h) (a ∷ []) s k =
@@ -39,7 +39,7 @@ module _ (least symbols : ℕ) (some : 0 < symbols) where
   value-pos (suc h) (a ∷ b ∷ x) s k = omega (arith, value-pos h (b ∷ x) (s .2) (omega arith))
 
   -- the order of codes is the order of their values
-  pub value-mono : (h : ℕ) (x y : Digits) → Side least symbols x → Formed least symbols y → length y ≤ h → Below x y
+  value-mono : (h : ℕ) (x y : Digits) → Side least symbols x → Formed least symbols y → length y ≤ h → Below x y
       → value h x < value h y
   value-mono h x [] s t k b = absurd t
   value-mono zero x (c ∷ y) s t k b = absurd (omega arith)
@@ -53,7 +53,7 @@ module _ (least symbols : ℕ) (some : 0 < symbols) where
   value-mono (suc h) (a ∷ x) (c ∷ e ∷ y) s t k (inr b) =
       rw (b .0) (omega (arith, value-mono h x (e ∷ y) (formed-rest least symbols a x s) (t .2) (omega arith) (b .1)))
 
-  pub one-value : (h : ℕ) (x y : Digits) → Within least symbols h x → Within least symbols h y → value h x ≡ value h y → x ≡ y
+  one-value : (h : ℕ) (x y : Digits) → Within least symbols h x → Within least symbols h y → value h x ≡ value h y → x ≡ y
   one-value h x y s t e = go (below-three x y)
     where
       go : Three (Below x y) (x ≡ y) (Below y x) → x ≡ y
@@ -82,7 +82,7 @@ module _ (least symbols : ℕ) (some : 0 < symbols) where
   distinct-values h (x ∷ xs) a d = (fresh-values h x xs (a .0) (a .1) (d .0), distinct-values h xs (a .1) (d .1))
 
   -- demand 3: codes that are all different and have at most h digits each are fewer than symbols ^ h
-  pub codes-bound : (h : ℕ) (xs : List Digits) → All (Within least symbols h) xs → Distinct xs → length xs < symbols ^ h
+  codes-bound : (h : ℕ) (xs : List Digits) → All (Within least symbols h) xs → Distinct xs → length xs < symbols ^ h
   codes-bound h xs a d =
       let p = pigeons (symbols ^ h - 1) (map (λ x. value h x - 1) xs) (all-values h xs a) (distinct-values h xs a d) in
       omega (arith, p, length-map xs (λ x. value h x - 1), one-le-pow h symbols some)

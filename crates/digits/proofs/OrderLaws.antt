@@ -29,7 +29,7 @@ compared (suc a) zero = rw compare·suc-zero (gt (omega arith))
 compared (suc a) (suc b) = rw compare·suc-suc (up (compared a b))
 
 -- only one comparison is right
-pub one-comparison : (a b : ℕ) (o p : Ordering) → Compared a b o → Compared a b p → o ≡ p
+one-comparison : (a b : ℕ) (o p : Ordering) → Compared a b o → Compared a b p → o ≡ p
 one-comparison a b Ordering·lt Ordering·lt h k = refl
 one-comparison a b Ordering·lt Ordering·eq (lt h) (eq k) = absurd (omega arith)
 one-comparison a b Ordering·lt Ordering·gt (lt h) (gt k) = absurd (omega arith)
@@ -100,7 +100,7 @@ below?→ (a ∷ x) (b ∷ y) t = go (compare a b) (compared a b) (below?→ x y
     go Ordering·eq (eq h) r t = inr (h, r t)
     go Ordering·gt (gt h) r t = absurd t
 
-pub →below? : (x y : Digits) → Below x y → T (below? x y)
+→below? : (x y : Digits) → Below x y → T (below? x y)
 →below? [] [] t = t
 →below? [] (b ∷ y) t = tt
 →below? (a ∷ x) [] t = t

@@ -77,7 +77,7 @@ module _ (l r : Digits) (g : Gap l r) where
   cut-at Ordering·eq (eq h) = cut-left (omega arith)
   cut-at Ordering·gt (gt h) = cut-left (omega arith)
 
-  pub cut-cuts : Cut l r (first l r) (second l r)
+  cut-cuts : Cut l r (first l r) (second l r)
   cut-cuts = cut-at (compare (length l) (length r)) (compared (length l) (length r))
 
 -- the three parts of a width: each at least 1, each narrower, together the whole
@@ -91,7 +91,7 @@ pub parts : (d : ℕ) → 3 ≤ d → Parts d (leftPart d) (middlePart d) (right
 parts d h = record { whole = omega arith; left = omega arith; middle = omega arith; right = omega arith }
 
 -- the codes rise strictly from the left side to the right side
-pub thirds-deep-rising : (n : ℕ) (l r : Digits) (d : ℕ) → Gap l r → Rising l (thirdsDeep n l r d) r
+thirds-deep-rising : (n : ℕ) (l r : Digits) (d : ℕ) → Gap l r → Rising l (thirdsDeep n l r d) r
 unfolding thirdsDeep
 thirds-deep-rising zero l r d g = g .order
 thirds-deep-rising (suc n) l r zero g = g .order
@@ -108,7 +108,7 @@ thirds-deep-rising (suc n) l r (suc (suc (suc k))) g =
     (thirds-deep-rising n b r _ (c .right)))
 
 -- demand 3 for any gap: a width of at most 3 ^ t gives codes of at most t digits more than the longer side
-pub thirds-deep-within : (n t : ℕ) (l r : Digits) (d : ℕ) → Gap l r → d ≤ 3 ^ t
+thirds-deep-within : (n t : ℕ) (l r : Digits) (d : ℕ) → Gap l r → d ≤ 3 ^ t
     → All (Within 1 3 (max (length l) (length r) + t)) (thirdsDeep n l r d)
 unfolding thirdsDeep
 thirds-deep-within zero t l r d g h = tt
@@ -139,7 +139,7 @@ thirds-deep-within (suc n) (suc t) l r (suc (suc (suc k))) g h =
         all-map (Within 1 3 m) (Within 1 3 M) (λ x w. record { formed = w .formed; fits = omega (arith, w .fits) }) xs
 
 -- as many codes as numbers lie strictly inside
-pub thirds-deep-length : (n : ℕ) (l r : Digits) (d : ℕ) → 1 ≤ d → d ≤ n → length (thirdsDeep n l r d) + 1 ≡ d
+thirds-deep-length : (n : ℕ) (l r : Digits) (d : ℕ) → 1 ≤ d → d ≤ n → length (thirdsDeep n l r d) + 1 ≡ d
 unfolding thirdsDeep
 thirds-deep-length zero l r d h k = absurd (omega arith)
 thirds-deep-length (suc n) l r zero h k = absurd (omega arith)
@@ -154,7 +154,7 @@ thirds-deep-length (suc n) l r (suc (suc (suc i))) h k =
     simp length-append (omega arith)
 
 -- any two depths of at least the width give the same codes
-pub thirds-deep-enough : (n m : ℕ) (l r : Digits) (d : ℕ) → d ≤ n → d ≤ m → thirdsDeep n l r d ≡ thirdsDeep m l r d
+thirds-deep-enough : (n m : ℕ) (l r : Digits) (d : ℕ) → d ≤ n → d ≤ m → thirdsDeep n l r d ≡ thirdsDeep m l r d
 unfolding thirdsDeep
 thirds-deep-enough zero zero l r d h k = refl
 thirds-deep-enough zero (suc m) l r zero h k = refl
@@ -219,9 +219,6 @@ pub record Rooms (l r a b : Digits) : Type 0 where
   pub left : Room l a
   pub middle : Room a b
   pub right : Room b r
-
-pub open-room : Room [] []
-open-room = record { gap = open-gap; two = λ h. absurd (omega arith) }
 
 lowered-two : (r : Digits) → EndsTwo r → EndsTwo (remade lower r)
 lowered-two [] e = e

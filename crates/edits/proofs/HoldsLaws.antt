@@ -31,7 +31,7 @@ use Rattle.registers.specs.declared.Found.the-variants.{At, Nothing}
 use Rattle.registers.specs.Layout.{deepest, entryPlace}
 use Rattle.registers.specs.Entries.{registerBytes}
 use Rattle.registers.specs.Holds.{identities, Whole, Holds}
-use Rattle.registers.specs.Questions.{countOf, linesOf, registerSound?, foundIn, treeOf}
+use Rattle.registers.specs.Questions.{countOf, linesOf, registerSound?, foundIn, treeIn}
 use Rattle.registers.proofs.RowLaws.{lines-length}
 use Rattle.registers.proofs.EntryLaws.{register-length}
 use Rattle.registers.proofs.QuestionLaws.{found-inside}
@@ -103,7 +103,7 @@ module _ (b : List ℕ) (f : Forest (Entry Name)) (h : Holds b f) where
           sound = inserted-sound longest (suc deepest) f q (h .whole .sound) m longest (omega arith) (omega arith) start end;
         }
 
-    pub inserted-held : Holds (insertedBytes b (length (ahead f q)) x) (insertedEntry w i m f)
+    inserted-held : Holds (insertedBytes b (length (ahead f q)) x) (insertedEntry w i m f)
     inserted-held = record {
       whole = inserted-whole;
       bytes =
@@ -112,7 +112,7 @@ module _ (b : List ℕ) (f : Forest (Entry Name)) (h : Holds b f) where
     }
 
   -- 01, Edit: a leaf that is not the root taken out
-  pub deleted-held : (i : ℕ) → i < size f → 0 < i → leaf? i f ≡ true → Holds (deletedBytes b i) (without i f)
+  deleted-held : (i : ℕ) → i < size f → 0 < i → leaf? i f ≡ true → Holds (deletedBytes b i) (without i f)
   deleted-held i k p l =
       let t = taken f i k l in
       let g = t .rest in
@@ -159,9 +159,9 @@ answered : (o : Outcome) (n k : ℕ) (c : List ℕ) → o ≡ accepted k c → o
 answered o n k c e a = let z : Accepted n ≡ Accepted k = sym a ∙ ap (λ (p : Outcome). p .answer) e in cc
 
 -- in terms of the tree that the lines stand for
-module _ (b : List ℕ) (h : Holds b (treeOf (linesOf b))) where
+module _ (b : List ℕ) (h : Holds b (treeIn b)) where
   abbrev g : Forest (Entry Name)
-  g = treeOf (linesOf b)
+  g = treeIn b
 
   sound-here : registerSound? b ≡ true
   sound-here = holds-sound b g h
@@ -229,7 +229,7 @@ module _ (b : List ℕ) (h : Holds b (treeOf (linesOf b))) where
       go Nothing k = accepted-refused (sym a ∙ ap (λ (p : Outcome). p .answer) (delete-absent b t sound-here k))
 
 module _ (b : List ℕ) (f : Forest (Entry Name)) (h : Holds b f) where
-  here : Holds b (treeOf (linesOf b))
+  here : Holds b (treeIn b)
   here = subst (Holds b) (sym (tree-held b f h)) h
 
   pub insert-accepted : (w : Where) (t : ℕ) (m : Name) (n : ℕ) → insertOutcome b w t m .answer ≡ Accepted n → Inserted b w t m f n
@@ -244,14 +244,14 @@ keeps-insert b w Nothing m = λ r e. refl
 keeps-insert b w (At i) m =
     keeps-unless (parented? w i) Root b _
     (keeps-unless (fresh? (m .identity) (identities (linesOf b))) Identity b _
-    (keeps-unless (leb (levelAt (treeOf (linesOf b)) (spotOf w i (treeOf (linesOf b)))) deepest) Depth b _
+    (keeps-unless (leb (levelAt (treeIn b) (spotOf w i (treeIn b))) deepest) Depth b _
     (keeps-unless (room? b) Room b _
-    (keeps-unless (fits? (newEntry m (treeOf (linesOf b)) (spotOf w i (treeOf (linesOf b))))) CodeLength b _ (keeps-accepted b _ _)))))
+    (keeps-unless (fits? (newEntry m (treeIn b) (spotOf w i (treeIn b)))) CodeLength b _ (keeps-accepted b _ _)))))
 
 keeps-delete : (b : List ℕ) (k : Found) → Unaltered b (deleteFound b k)
 keeps-delete b Nothing = λ r e. refl
 keeps-delete b (At i) =
-    keeps-unless (ltb 0 i) Root b _ (keeps-unless (leaf? i (treeOf (linesOf b))) Children b _ (keeps-accepted b _ _))
+    keeps-unless (ltb 0 i) Root b _ (keeps-unless (leaf? i (treeIn b)) Children b _ (keeps-accepted b _ _))
 
 pub apply-keeps : (b : List ℕ) (x : Edit) → Unaltered b (applyOutcome b x)
 unfolding insertOutcome deleteOutcome

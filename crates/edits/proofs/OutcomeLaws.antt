@@ -19,7 +19,7 @@ use Rattle.trees.specs.Neighbours.{newEntry}
 use Rattle.registers.specs.declared.Found.the-variants.{At, Nothing}
 use Rattle.registers.specs.Layout.{mostEntries, deepest, entryPlace}
 use Rattle.registers.specs.Holds.{identities}
-use Rattle.registers.specs.Questions.{countOf, linesOf, registerSound?, foundIn, treeOf}
+use Rattle.registers.specs.Questions.{countOf, linesOf, registerSound?, foundIn, treeIn}
 use Rattle.registers.proofs.QuestionLaws.{found-among, among-found}
 use Rattle.edits.specs.Splice.{insertedBytes, deletedBytes}
 use Rattle.edits.specs.Edits.{parented?, room?, putOutcome, insertAt, insertOutcome, deleteAt, deleteOutcome}
@@ -56,7 +56,7 @@ module _ (b : List ℕ) (t : ℕ) where
 -- 7, 3, 10, 4
 module _ (b : List ℕ) (w : Where) (i : ℕ) (m : Name) where
   abbrev f : Forest (Entry Name)
-  f = treeOf (linesOf b)
+  f = treeIn b
 
   pub at-root : parented? w i ≡ false → insertAt b w i m ≡ refused Root b
   at-root e = rw e refl
@@ -85,10 +85,10 @@ module _ (b : List ℕ) (i : ℕ) where
     some : ltb 0 i ≡ true
     some = lt-ltb 0 i (omega arith)
 
-    pub delete-inner : leaf? i (treeOf (linesOf b)) ≡ false → deleteAt b i ≡ refused Children b
+    pub delete-inner : leaf? i (treeIn b) ≡ false → deleteAt b i ≡ refused Children b
     delete-inner k = rw (some, k) refl
 
-    pub delete-leaf : leaf? i (treeOf (linesOf b)) ≡ true → deleteAt b i ≡ accepted i (deletedBytes b i)
+    pub delete-leaf : leaf? i (treeIn b) ≡ true → deleteAt b i ≡ accepted i (deletedBytes b i)
     delete-leaf k = rw (some, k) refl
 
 -- 8

@@ -22,13 +22,13 @@ use Rattle.trees.specs.Edit.{Where, firstChild, lastChild, before, after, insid
 use Rattle.trees.specs.Neighbours.{leftOf, rightOf, parentAt, newEntry}
 use Rattle.trees.specs.Search.{upward?, ownCode, outermost, nearest, leading}
 use Rattle.trees.proofs.ForestLaws.{length-preorder}
-use Rattle.trees.proofs.NeighbourLaws.{parent-inner, new-formed}
+use Rattle.trees.proofs.NeighbourLaws.{parent-in, new-formed}
 use Rattle.trees.proofs.PlaceLaws.{Own, Beside, beside, level-inner}
 use Rattle.trees.proofs.SearchLaws.{other, leading-ahead, neighbour-found, leaf-ahead}
 use Rattle.registers.specs.Entries.{codeAt}
 use Rattle.registers.specs.Layout.{deepest, startPlace, endPlace, parentPlace}
 use Rattle.registers.specs.Sound.{lineAt, CodeAt, SideAt}
-use Rattle.registers.specs.Questions.{countOf, linesOf, registerSound?, depthIn, treeOf}
+use Rattle.registers.specs.Questions.{countOf, linesOf, registerSound?, depthIn, treeIn}
 use Rattle.registers.proofs.SoundLaws.{side-held}
 use Rattle.registers.proofs.RowLaws.{lines-length}
 use Rattle.registers.proofs.QuestionLaws.{line-at}
@@ -39,7 +39,7 @@ use Rattle.edits.proofs.SearchLaws.{codes-at, start-of, end-of, parent-
 
 module _ (b : List ℕ) (e : registerSound? b ≡ true) where
   abbrev f : Forest (Entry Name)
-  f = treeOf (linesOf b)
+  f = treeIn b
 
   abbrev stands : Stands b
   stands = tree-stands b e
@@ -70,7 +70,7 @@ module _ (b : List ℕ) (e : registerSound? b ≡ true) where
     inside-tree : i < size f
     inside-tree = omega (arith, tree-size)
 
-    pub place-at : Beside w (lineAt b i) (depthIn (lineAt b i) (linesOf b)) [] [] [] 0 f q
+    place-at : Beside w (lineAt b i) (depthIn (lineAt b i) (linesOf b)) [] [] [] 0 f q
     place-at =
         let z = lineAt b i in
         subst (λ (r : Entry Name × ℕ). Beside w (r .0) (r .1) [] [] [] 0 f q) (row-is i z h)
@@ -165,7 +165,7 @@ module _ (b : List ℕ) (e : registerSound? b ≡ true) where
           go false = parent-of b e i h
 
       parent-code : IsCode (codeAt b (parentFrom w i))
-      parent-code = subst IsCode parent-is (parent-inner IsCode [] f q (stands .sound .coded) inner)
+      parent-code = subst IsCode parent-is (parent-in IsCode [] f q (λ z. absurd (omega (arith, inner))) (stands .sound .coded))
 
       pub parent-found : (r : ℕ) → r ≡ parentFrom w i → CodeAt b r × IsCode (codeAt b r) × (codeAt b r ≡ parentAt [] f q)
       parent-found r k =

@@ -20,7 +20,7 @@ use Rattle.registers.specs.declared.Found.{Found}
 use Rattle.registers.specs.declared.Found.the-variants.{At, Nothing}
 use Rattle.registers.specs.Layout.{deepest}
 use Rattle.registers.specs.Holds.{identities}
-use Rattle.registers.specs.Questions.{linesOf, registerSound?, foundIn, treeOf}
+use Rattle.registers.specs.Questions.{linesOf, registerSound?, foundIn, treeIn}
 use Rattle.registers.proofs.QuestionLaws.{found-inside}
 use Rattle.edits.specs.declared.Edit.{Edit}
 use Rattle.edits.specs.declared.Edit.the-variants.{Insert, Delete}
@@ -36,7 +36,7 @@ ahead-most f q =
 
 module _ (b : List ℕ) (e : registerSound? b ≡ true) where
   abbrev f : Forest (Entry Name)
-  f = treeOf (linesOf b)
+  f = treeIn b
 
   put-signable : (m : Name) (q : Spot f) → Signable (putOutcome b m f q .answer)
   put-signable m q =

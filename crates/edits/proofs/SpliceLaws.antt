@@ -31,7 +31,7 @@ run-under : (b : List ℕ) (a k : ℕ) (v w : List ℕ) → k ≡ a + length v �
 run-under b a k v w e room = ap (λ (z : ℕ). put (put b z w) a v) e ∙ put-under b a v w (omega arith)
 
 -- how many bytes some entries have
-pub entries-at-length : (b : List ℕ) (i m : ℕ) → entryPlace (i + m) ≤ length b → length (entriesAt b i m) ≡ entrySize * m
+entries-at-length : (b : List ℕ) (i m : ℕ) → entryPlace (i + m) ≤ length b → length (entriesAt b i m) ≡ entrySize * m
 entries-at-length b i m room =
     let d : length (drop (entryPlace i) b) ≡ length b - entryPlace i = length-drop (entryPlace i) b in
     length-take-le (entrySize * m) (drop (entryPlace i) b) (omega arith)

@@ -16,7 +16,7 @@ use Rattle.registers.specs.declared.Found.{Found}
 use Rattle.registers.specs.declared.Found.the-variants.{At, Nothing}
 use Rattle.registers.specs.Layout.{mostEntries, deepest, entryPlace}
 use Rattle.registers.specs.Holds.{identities}
-use Rattle.registers.specs.Questions.{countOf, linesOf, registerSound?, foundIn, treeOf}
+use Rattle.registers.specs.Questions.{countOf, linesOf, registerSound?, foundIn, treeIn}
 use Rattle.edits.specs.declared.Place.{Place}
 use Rattle.edits.specs.declared.Place.the-variants.{FirstChildOf, LastChildOf, Before, After}
 use Rattle.edits.specs.declared.Edit.{Edit}
@@ -48,6 +48,10 @@ room? bytes = ltb (countOf bytes) mostEntries && leb (entryPlace (countOf bytes 
 abbrev pub fits? : Entry Name → Bool
 fits? u = leb (length (u .start)) longest && leb (length (u .end)) longest
 
+-- a place of entry i, as a gap of the tree that a register holds
+abbrev pub spotIn : (bytes : List ℕ) → Where → ℕ → Spot (treeIn bytes)
+spotIn bytes w i = spotOf w i (treeIn bytes)
+
 -- the entry put into a gap of the tree f, with its codes between the neighbours, and answered by its place
 abbrev pub putOutcome : List ℕ → Name → (f : Forest (Entry Name)) → Spot f → Outcome
 putOutcome bytes name f q =
@@ -57,8 +61,8 @@ putOutcome bytes name f q =
 -- 01, Insertion: 7, 3, 10, 4, 8, where the target is entry number i
 abbrev pub insertAt : List ℕ → Where → ℕ → Name → Outcome
 insertAt bytes w i name =
-    let f = treeOf (linesOf bytes) in
-    let q = spotOf w i f in
+    let f = treeIn bytes in
+    let q = spotIn bytes w i in
     unless (parented? w i) Root bytes
     (unless (fresh? (name .identity) (identities (linesOf bytes))) Identity bytes
     (unless (leb (levelAt f q) deepest) Depth bytes (unless (room? bytes) Room bytes (putOutcome bytes name f q))))
@@ -76,7 +80,7 @@ insertOutcome bytes w target name =
 -- 01, Deletion: 7, 9, where the target is entry number i
 abbrev pub deleteAt : List ℕ → ℕ → Outcome
 deleteAt bytes i =
-    unless (ltb 0 i) Root bytes (unless (leaf? i (treeOf (linesOf bytes))) Children bytes (accepted i (deletedBytes bytes i)))
+    unless (ltb 0 i) Root bytes (unless (leaf? i (treeIn bytes)) Children bytes (accepted i (deletedBytes bytes i)))
 
 abbrev pub deleteFound : List ℕ → Found → Outcome
 deleteFound bytes (At i) = deleteAt bytes i

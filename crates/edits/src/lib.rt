@@ -6,17 +6,17 @@ ghost use Rattle.codes.specs.Code.{IsCode};
 ghost use Rattle.codes.specs.Spread.{digitsOf};
 ghost use Rattle.identities.specs.Rows.{fresh?};
 ghost use Rattle.trees.specs.Labelled.{starts, ends};
-ghost use Rattle.trees.specs.Edit.{inside?, levelAt, spotOf};
+ghost use Rattle.trees.specs.Edit.{inside?, levelAt};
 ghost use Rattle.trees.specs.Neighbours.{leftOf, rightOf};
 ghost use Rattle.trees.specs.Search.{upward?};
 ghost use Rattle.registers.specs.Layout.{mostEntries};
 ghost use Rattle.registers.specs.Entries.{codeAt};
 ghost use Rattle.registers.specs.Holds.{identities};
 ghost use Rattle.registers.specs.Sound.{CodeAt};
-ghost use Rattle.registers.specs.Questions.{countOf, linesOf, sized?, registerSound?, treeOf};
+ghost use Rattle.registers.specs.Questions.{countOf, linesOf, sized?, registerSound?, treeOf, treeIn};
 ghost use Rattle.edits.specs.Splice.{insertedBytes, deletedBytes};
 ghost use Rattle.edits.specs.Search.{ownPlace, parentFrom};
-ghost use Rattle.edits.specs.Edits.{whereOf, targetOf, parented?, room?, putOutcome, insertAt, insertOutcome, deleteAt, deleteOutcome, applyOutcome};
+ghost use Rattle.edits.specs.Edits.{whereOf, targetOf, parented?, room?, spotIn, putOutcome, insertAt, insertOutcome, deleteAt, deleteOutcome, applyOutcome};
 
 mod search;
 
@@ -148,9 +148,9 @@ fn put_in(register: &mut [u8], place: Place, at: usize, identity: u32, tag: u32)
     requires parented { ⌜ parented? (whereOf place) at ≡ true ⌝ }
     requires room { ⌜ room? (now register) ≡ true ⌝ }
     ensures answer { λ r. ⌜ r ≡ putOutcome (now (register .entry)) (record { identity = identity; tag = tag })
-        (treeOf (linesOf (now (register .entry)))) (spotOf (whereOf place) at (treeOf (linesOf (now (register .entry))))) .answer ⌝ }
+        (treeIn (now (register .entry))) (spotIn (now (register .entry)) (whereOf place) at) .answer ⌝ }
     ensures bytes { λ _. ⌜ now (register .exit) ≡ putOutcome (now (register .entry)) (record { identity = identity; tag = tag })
-        (treeOf (linesOf (now (register .entry)))) (spotOf (whereOf place) at (treeOf (linesOf (now (register .entry))))) .bytes ⌝ }
+        (treeIn (now (register .entry))) (spotIn (now (register .entry)) (whereOf place) at) .bytes ⌝ }
 {
     let gap = neighbours(register, place, at);
     let right = registers::code_at(register, gap.right);
@@ -175,9 +175,9 @@ fn neighbours(register: &[u8], place: Place, at: usize) -> Gap
     requires parented { ⌜ parented? (whereOf place) at ≡ true ⌝ }
     ensures codes { λ r. ⌜ CodeAt (now (register .entry)) (r .left) × CodeAt (now (register .entry)) (r .right) ⌝ }
     ensures left { λ r. ⌜ codeAt (now (register .entry)) (r .left) ≡ leftOf starts ends
-        (treeOf (linesOf (now (register .entry)))) (spotOf (whereOf place) at (treeOf (linesOf (now (register .entry))))) ⌝ }
+        (treeIn (now (register .entry))) (spotIn (now (register .entry)) (whereOf place) at) ⌝ }
     ensures right { λ r. ⌜ codeAt (now (register .entry)) (r .right) ≡ rightOf starts ends
-        (treeOf (linesOf (now (register .entry)))) (spotOf (whereOf place) at (treeOf (linesOf (now (register .entry))))) ⌝ }
+        (treeIn (now (register .entry))) (spotIn (now (register .entry)) (whereOf place) at) ⌝ }
 {
     let own = own_place(place, at);
     let up = upward(place);
@@ -274,8 +274,8 @@ fn has_room(register: &[u8]) -> bool
 fn level(register: &[u8], place: Place, at: usize) -> usize
     requires sound { ⌜ registerSound? (now register) ≡ true ⌝ }
     requires place { ⌜ at < countOf (now register) ⌝ }
-    ensures level { λ r. ⌜ r ≡ levelAt (treeOf (linesOf (now (register .entry))))
-        (spotOf (whereOf place) at (treeOf (linesOf (now (register .entry))))) ⌝ }
+    ensures level { λ r. ⌜ r ≡ levelAt (treeIn (now (register .entry)))
+        (spotIn (now (register .entry)) (whereOf place) at) ⌝ }
 {
     let depth = registers::depth_at(register, at);
     if inside(place) {

@@ -7,7 +7,7 @@ ghost use Rattle.trees.specs.Search.{toward?, closer as closerOf, outermost, ne
 ghost use Rattle.registers.specs.Entries.{codeAt};
 ghost use Rattle.edits.specs.Search.{outerPlace};
 ghost use Rattle.registers.specs.Sound.{lineAt, CodeAt};
-ghost use Rattle.registers.specs.Questions.{countOf, linesOf, registerSound?, treeOf};
+ghost use Rattle.registers.specs.Questions.{countOf, linesOf, registerSound?, treeOf, treeIn};
 use registers::end_place;
 use registers::fields_below;
 use registers::start_place;
@@ -88,7 +88,7 @@ pub(crate) fn starts_below(register: &[u8], at: usize) -> usize
 pub(crate) fn leaf(register: &[u8], i: usize) -> bool
     requires sound { ⌜ registerSound? (now register) ≡ true ⌝ }
     requires place { ⌜ i < countOf (now register) ⌝ }
-    ensures leaf { λ r. ⌜ r ≡ leaf? i (treeOf (linesOf (now (register .entry)))) ⌝ }
+    ensures leaf { λ r. ⌜ r ≡ leaf? i (treeIn (now (register .entry))) ⌝ }
 {
     starts_below(register, end_place(i)) == i + 1
 }

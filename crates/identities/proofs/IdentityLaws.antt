@@ -13,10 +13,10 @@ use Rattle.identities.specs.Identities.{among?}
 use Rattle.identities.specs.Identities.{placeCount, hashOf, place, In, Passed, FreeAt, TakenAt, Crowded, Holds}
 
 -- a number among others, and one more in front
-pub among-here : (x : ℕ) (used : List ℕ) → among? x (x ∷ used) ≡ true
+among-here : (x : ℕ) (used : List ℕ) → among? x (x ∷ used) ≡ true
 among-here x used = simp (eq-eqb x x refl)
 
-pub among-more : (x y : ℕ) (used : List ℕ) → among? x used ≡ true → among? x (y ∷ used) ≡ true
+among-more : (x y : ℕ) (used : List ℕ) → among? x used ≡ true → among? x (y ∷ used) ≡ true
 among-more x y used h = go (eqb x y) refl
   where
     go : (b : Bool) → eqb x y ≡ b → among? x (y ∷ used) ≡ true
@@ -40,7 +40,7 @@ among-cases x y used h = go (eqb x y) refl
 
 module _ (t : List ℕ) (x : ℕ) (some : x ≡ 0 → ⊥) where
   -- what has a free place is not in the table
-  pub absent : (i : ℕ) → FreeAt t x i → In t x → ⊥
+  absent : (i : ℕ) → FreeAt t x i → In t x → ⊥
   absent i f m = go (ltb (f .d) (m .d)) (ltb (m .d) (f .d)) refl refl
     where
       free-here : getD t (place x (f .d)) 0 ≡ 0

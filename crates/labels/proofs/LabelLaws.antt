@@ -15,7 +15,7 @@ use Rattle.codes.specs.Code.{fieldSize, IsCode}
 use Rattle.codes.specs.Field.{fieldOf}
 use Rattle.codes.specs.Reading.{Reading, code, empty, unsound, read, codeHeld?, emptyHeld?, sideOf}
 use Rattle.codes.proofs.ReadingLaws.{Sided, read-code, read-empty, held-code}
-use Rattle.codes.proofs.CallLaws.{full-below, held-below}
+use Rattle.codes.proofs.CallLaws.{held-below}
 use Rattle.labels.specs.Label.{startAt, endAt, parentAt, labelSize, fieldAt, Label, labelOf, parentSound?, soundAs?, sound?}
 
 pub field-size : (b : List ℕ) (at : ℕ) → at + fieldSize ≤ length b → length (fieldAt at b) ≡ fieldSize

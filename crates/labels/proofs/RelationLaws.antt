@@ -30,7 +30,7 @@ ordered x y = go (below-three x y)
     go (upper h) = rw (below?-false x y (λ k. below-asym x y k h), below?-true y x h) (behind h)
 
 -- total: the answer is one of three, and it is 0 only where the starts are equal
-pub order-total : (u v : Label) → Ordered (u .start) (v .start) (order u v)
+order-total : (u v : Label) → Ordered (u .start) (v .start) (order u v)
 order-total u v = ordered (u .start) (v .start)
 
 one-order : (x y : Digits) (i j : ℤ) → Ordered x y i → Ordered x y j → i ≡ j

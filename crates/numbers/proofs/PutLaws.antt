@@ -14,15 +14,8 @@ pub put-nil : (xs : List ℕ) (at : ℕ) → put xs at [] ≡ xs
 unfolding put
 put-nil xs at = rw add-zero (take-append-drop at xs)
 
--- as many put as there are
-pub put-whole : (xs vs : List ℕ) → length vs ≡ length xs → put xs 0 vs ≡ vs
-unfolding put
-put-whole xs vs e =
-    let d : drop (0 + length vs) xs ≡ [] = drop-of-length-le xs {i = 0 + length vs} (omega arith) in
-    rw d (append-nil vs)
-
 -- the parts by name
-pub put-parts : (xs : List ℕ) (at : ℕ) (vs : List ℕ) {p q : List ℕ} → take at xs ≡ p → drop (at + length vs) xs ≡ q
+put-parts : (xs : List ℕ) (at : ℕ) (vs : List ℕ) {p q : List ℕ} → take at xs ≡ p → drop (at + length vs) xs ≡ q
     → put xs at vs ≡ p ++ (vs ++ q)
 unfolding put
 put-parts xs at vs e d = rw (e, d)
@@ -38,20 +31,20 @@ put-grows xs at vs h = simp (length-append, length-take, length-drop) (omega ari
 
 module _ (xs : List ℕ) (at : ℕ) (vs : List ℕ) (room : at ≤ length xs) where
   -- the part before the run, the run, and the part after it
-  pub take-put : (n : ℕ) → n ≤ at → take n (put xs at vs) ≡ take n xs
+  take-put : (n : ℕ) → n ≤ at → take n (put xs at vs) ≡ take n xs
   unfolding put
   take-put n h =
       let l : length (take at xs) ≡ at = length-take-le at xs room in
       take-append-le n (take at xs) (vs ++ drop (at + length vs) xs) (omega arith) ∙ take-take n at xs h
 
-  pub put-rest : drop at (put xs at vs) ≡ vs ++ drop (at + length vs) xs
+  put-rest : drop at (put xs at vs) ≡ vs ++ drop (at + length vs) xs
   unfolding put
   put-rest = drop-at (take at xs) (vs ++ drop (at + length vs) xs) at (length-take-le at xs room)
 
   pub put-run : take (length vs) (drop at (put xs at vs)) ≡ vs
   put-run = rw put-rest (take-at vs (drop (at + length vs) xs) (length vs) refl)
 
-  pub take-put-run : take (at + length vs) (put xs at vs) ≡ take at xs ++ vs
+  take-put-run : take (at + length vs) (put xs at vs) ≡ take at xs ++ vs
   take-put-run = rw (take-add at (length vs) (put xs at vs), put-run, take-put at (omega arith))
 
   pub drop-put : (n : ℕ) → at + length vs ≤ n → drop n (put xs at vs) ≡ drop n xs

@@ -2,7 +2,7 @@
 -- Assumes nothing.
 use mathlib.Core.Path.{_≡_, refl, sym, ap, _∙_, subst}
 use mathlib.Core.Logic.{inl, inr, _≢_, _↔_}
-use mathlib.Core.Bool.{Bool, true, false, cond, _&&_, and-eq-true-iff, and-false}
+use mathlib.Core.Bool.{Bool, true, false, cond, and-eq-true-iff, and-false}
 use mathlib.Core.List.{List, [], _∷_, _++_, map}
 use Prim.Native.Nat.{ℕ, zero, suc, _+_, _≤_, _<_}
 use native.Mathlib.Omega.{arith}
@@ -39,7 +39,7 @@ use Rattle.registers.specs.declared.Found.the-variants.{At, Nothing}
 use Rattle.registers.specs.Layout.{deepest, entryPlace, labelAt}
 use Rattle.registers.specs.Entries.{codeAt}
 use Rattle.registers.specs.Sound.{labelBytes, soundLabel?, lineAt}
-use Rattle.registers.specs.Questions.{countOf, linesOf, registerSound?, foundFrom, foundIn, aboveEntry?, depthIn, treeOf}
+use Rattle.registers.specs.Questions.{countOf, linesOf, registerSound?, foundFrom, foundIn, aboveEntry?, depthIn, treeOf, treeIn}
 use Rattle.registers.proofs.SoundLaws.{label-field}
 use Rattle.registers.proofs.RowLaws.{line-start, line-end, line-parent}
 use Rattle.registers.proofs.TreeLaws.{tree-lined}
@@ -145,27 +145,27 @@ rows-lines f h =
     one-depth f d (p .1) (depthIn (p .0) us) (p .0) i (depth-of f h (p .0) (depth-has f (p .0) (p .1) i))) in
     named (λ u. depthIn u us) (rows 0 f) a ∙ ap (map (λ u. (u, depthIn u us))) (preorder-rows 0 f)
 
-pub tree-lines : (f : Forest (Entry Name)) → Rising [] (codes f) [] → treeOf (preorder f) ≡ f
+tree-lines : (f : Forest (Entry Name)) → Rising [] (codes f) [] → treeOf (preorder f) ≡ f
 unfolding treeOf
 tree-lines f h = ap forest (sym (rows-lines f h)) ∙ forest-rows f
 
 -- the tree of a sound register
 pub record Stands (b : List ℕ) : Type 0 where
-  pub rooted : Rooted (treeOf (linesOf b))
-  pub entries : preorder (treeOf (linesOf b)) ≡ linesOf b
-  pub sound : Sound IsCode (suc deepest) [] [] [] (treeOf (linesOf b))
+  pub rooted : Rooted (treeIn b)
+  pub entries : preorder (treeIn b) ≡ linesOf b
+  pub sound : Sound IsCode (suc deepest) [] [] [] (treeIn b)
 
 pub tree-stands : (b : List ℕ) → registerSound? b ≡ true → Stands b
 tree-stands b e =
     let t = tree-lined b (countOf b) (parts-of b e .tree) in
-    let i : t .tree ≡ treeOf (linesOf b) = sym (tree-lines (t .tree) (t .sound .rising)) ∙ ap treeOf (t .entries) in
+    let i : t .tree ≡ treeIn b = sym (tree-lines (t .tree) (t .sound .rising)) ∙ ap treeOf (t .entries) in
     record {
       rooted = subst Rooted i (t .rooted);
       entries = ap preorder (sym i) ∙ t .entries;
       sound = subst (Sound IsCode (suc deepest) [] [] []) i (t .sound);
     }
 
-pub tree-held : (b : List ℕ) (f : Forest (Entry Name)) → Holds b f → treeOf (linesOf b) ≡ f
+pub tree-held : (b : List ℕ) (f : Forest (Entry Name)) → Holds b f → treeIn b ≡ f
 tree-held b f h = ap treeOf (lines-held b f h) ∙ tree-lines f (h .whole .sound .rising)
 
 -- the place that is answered is that of the identity in document order, and an identity with no place is not there

@@ -49,7 +49,7 @@ same-five : (v v′ w w′ x x′ y y′ z z′ : List ℕ) → v ≡ v′ → w
 same-five v v′ w w′ x x′ y y′ z z′ a b c d e = rw (a, b, c, d, e) refl
 
 -- the bytes of an entry whose label is sound
-pub entry-bytes : (b : List ℕ) (i : ℕ) → Bytes b → HasPlace b i → soundLabel? b i ≡ true
+entry-bytes : (b : List ℕ) (i : ℕ) → Bytes b → HasPlace b i → soundLabel? b i ≡ true
     → entryBytes (entryAt b i) ≡ take entrySize (drop (entryPlace i) b)
 unfolding entryBytes entryAt
 entry-bytes b i y h t =
@@ -100,7 +100,7 @@ coded-sound b i c = go (soundLabel? b i) refl
     go false e = absurd (subst IsCode (line-blank b i e) c .formed)
 
 -- the bytes of lines that all start with codes
-pub lines-bytes : (b : List ℕ) (m i n : ℕ) → Bytes b → HasEntries b n → i + m ≤ n
+lines-bytes : (b : List ℕ) (m i n : ℕ) → Bytes b → HasEntries b n → i + m ≤ n
     → All (λ (u : Entry Name). IsCode (u .start)) (linesFrom b i m)
     → entriesBytes (linesFrom b i m) ≡ take (entrySize * m) (drop (entryPlace i) b)
 lines-bytes b zero i n y h k a = refl

@@ -83,7 +83,7 @@ module _ (b : List ℕ) (f : Forest (Entry Name)) (h : Holds b f) where
   zero-is : numberAt b zeroAt ≡ 0
   zero-is = number-of b (registerBytes us) 0 (entryPlace n) 4 whole-bytes (omega arith) ∙ omega arith
 
-  pub lines-are : linesFrom b 0 n ≡ us
+  lines-are : linesFrom b 0 n ≡ us
   lines-are =
       lines-read b us 0
       (part-of b (registerBytes us) 0 (entryPlace n) 8 (entrySize * n) whole-bytes (omega arith)

@@ -138,7 +138,7 @@ module _ (b : List ℕ) (i : ℕ) (u : Entry Name) (e : take entrySize (drop (en
   label-read : soundLabel? b i ≡ true
   label-read = ap sound? label-is ∙ label-sound u l
 
-  pub entry-read : lineAt b i ≡ u
+  entry-read : lineAt b i ≡ u
   unfolding entryAt entryBytes
   entry-read =
       let x : List ℕ = entryBytes u in

@@ -88,7 +88,7 @@ later-side p l x (inl e) b = inl e
 later-side p l x (inr (c, inl e)) b = inr (c, inr (subst (λ z. Below z x) (sym e) b))
 later-side p l x (inr (c, inr d)) b = inr (c, inr (below-trans p l x d b))
 
-pub labels-of : (k : ℕ) (p l r : Digits) (f : Forest (Entry Name)) → Parented p l → Fact k p l r f → All Label (preorder f)
+labels-of : (k : ℕ) (p l r : Digits) (f : Forest (Entry Name)) → Parented p l → Fact k p l r f → All Label (preorder f)
 labels-of k p l r nil q h = tt
 labels-of k p l r (node u c s) q h =
     let w = facts-at IsCode starts ends parents k p l r u c s h in

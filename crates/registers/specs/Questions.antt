@@ -69,6 +69,9 @@ depthIn v (u ∷ us) = cond (aboveEntry? u v) 1 0 + depthIn v us
 unfoldable pub treeOf : List (Entry Name) → Forest (Entry Name)
 treeOf us = forest (map (λ u. (u, depthIn u us)) us)
 
+abbrev pub treeIn : List ℕ → Forest (Entry Name)
+treeIn bytes = treeOf (linesOf bytes)
+
 abbrev pub depthAs : List ℕ → Found → ℤ
 depthAs bytes (At i) = pos (depthIn (lineAt bytes i) (linesOf bytes))
 depthAs bytes Nothing = refusedAs (numberOf Target)

@@ -1,5 +1,5 @@
 -- An accepted table gives a sound register whose plain tree is the table's, with first codes of at most m digits. Assumes nothing.
-use mathlib.Core.Path.{_≡_, refl, sym, ap, _∙_, subst}
+use mathlib.Core.Path.{_≡_, sym, ap, _∙_, subst}
 use mathlib.Core.Logic.{_≢_}
 use mathlib.Core.Bool.{true}
 use mathlib.Core.List.{List, [], _∷_, map}
@@ -54,7 +54,7 @@ module _ (t : List ℕ) (n : ℕ) (e : checkedOf t ≡ Rows n) where
       sym (map-twice names identity us) ∙ ap (map identity) (q ∙ sym r)
       ∙ map-twice (λ p. p .0) identity (named (rowsOf t)) ∙ map-twice naming (λ p. p .0 .identity) (rowsOf t)
 
-  pub label-whole : Whole (labelledTree t)
+  label-whole : Whole (labelledTree t)
   label-whole =
       let a = accepted t n e in
       let s = tree-size t n e in

@@ -44,11 +44,11 @@ all-replicate P zero x p = tt
 all-replicate P (suc n) x p = (p, all-replicate P n x p)
 
 -- before the first code: nothing is open
-abbrev pub atStart : List ℕ → Walk
+abbrev atStart : List ℕ → Walk
 atStart bytes = record { bytes = bytes; path = replicate (suc deepest) 0; row = 0; level = 0 }
 
 module _ (t : List ℕ) (n : ℕ) (e : checkedOf t ≡ Rows n) where
-  pub row-count : rowCount t ≡ n
+  row-count : rowCount t ≡ n
   row-count = sym (rows-length t) ∙ accepted-count t n e
 
   pub count-most : n ≤ mostRows

@@ -21,7 +21,7 @@ rows-length (a ∷ b ∷ c ∷ t) = omega (arith, rows-length t)
 next-start : (i : ℕ) → rowSize * suc i ≡ suc (suc (suc (rowSize * i)))
 next-start i = omega arith
 
-pub rows-drop : (i : ℕ) (t : List ℕ) → drop i (rowsOf t) ≡ rowsOf (drop (rowSize * i) t)
+rows-drop : (i : ℕ) (t : List ℕ) → drop i (rowsOf t) ≡ rowsOf (drop (rowSize * i) t)
 unfolding rowsOf
 rows-drop zero t = refl
 rows-drop (suc i) [] = rw (next-start i)

@@ -55,7 +55,7 @@ named-end t i h =
     drop-of-length-le (named (rowsOf t)) {i = i} (omega arith)
 
 -- what stands behind a row of depth d ends it: nothing, or a row less deep
-abbrev pub Higher : ℕ → List (Name × ℕ) → Type 0
+abbrev Higher : ℕ → List (Name × ℕ) → Type 0
 Higher d [] = Unit {0}
 Higher d (row ∷ rest) = row .1 < d
 

@@ -23,14 +23,14 @@ use Rattle.trees.proofs.ListLaws.{map-append}
 use Rattle.texts.specs.Printed.{dash, digitByte, codeText}
 
 -- a code is printed as its digits, no code as `-`
-pub code-digits : (x : Digits) → IsCode x → codeText x ≡ map digitByte x
+code-digits : (x : Digits) → IsCode x → codeText x ≡ map digitByte x
 code-digits [] c = absurd (c .formed)
 code-digits (d ∷ x) c = refl
 
 pub no-digits : (x : Digits) → x ≡ [] → codeText x ≡ dash ∷ []
 no-digits x e = ap codeText e
 
-pub code-length : (x : Digits) → length x ≤ longest → length (codeText x) ≤ longest
+code-length : (x : Digits) → length x ≤ longest → length (codeText x) ≤ longest
 code-length [] h = omega arith
 code-length (d ∷ x) h = omega (arith, length-map (d ∷ x) digitByte)
 

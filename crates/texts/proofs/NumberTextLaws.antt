@@ -45,7 +45,7 @@ module _ (stop : ℕ) (apart : digit? stop ≡ false) where
           let l = ltb-false x 10 e in
           rw (decimal-last x l, append-assoc) (shorter (digitByte (x % 10) ∷ u) (omega arith) (omega arith) ∙ last-read x u l k)
 
-  pub number-printed : (x : ℕ) (t : List ℕ) → x < numberLimit → readNumber stop (decimal x ++ (stop ∷ t)) ≡ number x t
+  number-printed : (x : ℕ) (t : List ℕ) → x < numberLimit → readNumber stop (decimal x ++ (stop ∷ t)) ≡ number x t
   number-printed x t h = digits-read x x (stop ∷ t) (omega arith) h ∙ rw (eq-eqb stop stop refl)
 
 -- a line is read as its three numbers
@@ -95,7 +95,7 @@ module _ (stop y : ℕ) (t : List ℕ) where
       go false p false q e rest = absurd (no-number e)
       go false p true q e rest = let k = follows→ x b q in digit-read x b u k (rest (k .fits) e)
 
-  pub number-read : (bytes : List ℕ) → readNumber stop bytes ≡ number y t → ReadFrom stop bytes y t
+  number-read : (bytes : List ℕ) → readNumber stop bytes ≡ number y t → ReadFrom stop bytes y t
   number-read [] e = absurd (no-number e)
   number-read (b ∷ u) e = go (digit? b) refl e
     where

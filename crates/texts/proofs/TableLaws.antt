@@ -62,15 +62,15 @@ pub lines-next : (k : ℕ) (bytes : List ℕ) (a b c : ℕ) (t : List ℕ) → r
 lines-next k [] a b c t e = let z : _≡_ {A = ℕ} 0 1 = cc (no-first [] refl) in absurd (omega arith)
 lines-next k (x ∷ bytes) a b c t e = rw e
 
-pub lines-broken : (k : ℕ) (bytes : List ℕ) → 0 < length bytes → readLine bytes ≡ noLine → readLines (suc k) bytes ≡ unreadable
+lines-broken : (k : ℕ) (bytes : List ℕ) → 0 < length bytes → readLine bytes ≡ noLine → readLines (suc k) bytes ≡ unreadable
 lines-broken k [] h e = absurd (omega arith)
 lines-broken k (x ∷ bytes) h e = rw e
 
-pub lines-full : (bytes : List ℕ) → 0 < length bytes → readLines zero bytes ≡ unreadable
+lines-full : (bytes : List ℕ) → 0 < length bytes → readLines zero bytes ≡ unreadable
 lines-full [] h = absurd (omega arith)
 lines-full (x ∷ bytes) h = refl
 
-pub lines-end : (k : ℕ) → readLines k [] ≡ readAs []
+lines-end : (k : ℕ) → readLines k [] ≡ readAs []
 lines-end zero = refl
 lines-end (suc k) = refl
 

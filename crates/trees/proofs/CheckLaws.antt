@@ -1,7 +1,7 @@
 -- Laws of the check of entries: it passes exactly the entries of a tree whose codes rise, with parent starts and levels as they have to be.
 -- The walk itself is in WalkLaws, the labelled entries of a register in EntryLaws.
 -- Assumes nothing.
-use mathlib.Core.Path.{_≡_, ap, subst, _∙_}
+use mathlib.Core.Path.{_≡_, ap, _∙_}
 use mathlib.Core.Bool.{Bool, true, false≢true, and-eq-true-iff}
 use mathlib.Core.List.{List, [], _∷_, _++_, append-assoc}
 use Prim.Native.Nat.{ℕ, pred}
@@ -33,7 +33,7 @@ module _ {A : Type 0} (Code : Digits → Type 0) (st en ps : A → Digits) where
     pub next : Facts k p (en x) r s
 
   module _ (k : ℕ) (p l r : Digits) where
-    pub facts-nil : Under l r → Facts k p l r nil
+    facts-nil : Under l r → Facts k p l r nil
     facts-nil u = record { rising = u; coded = tt; parented = tt; height = tt }
 
     pub facts-node : (x : A) (c s : Forest A) → FactsAt k p l r x c s → Facts k p l r (node x c s)
@@ -146,8 +146,3 @@ module _ {A : Type 0} (Code : Digits → Type 0) (st en ps : A → Digits) where
           let t = facts-at k [] [] [] x c nil h in
           let m = row-passes (pred k) (st x) (st x) (en x) c [] (t .children) (all-left P (preorder c) [] (a .1)) tt in
           and-eq-true-iff (ok k [] [] [] x) _ .1 (tell k [] [] [] x (a .0) (t .place), ap whole? m)
-
-      pub of-passes : (k : ℕ) (xs : List A) → TreeOf k xs → All P xs → treeWalk? st en ok k xs ≡ true
-      of-passes k xs t a =
-          subst (λ ys. treeWalk? st en ok k ys ≡ true) (t .entries)
-          (tree-passes k (t .tree) (t .rooted) (t .facts) (rw (t .entries) a))

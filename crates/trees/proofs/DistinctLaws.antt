@@ -35,13 +35,13 @@ module _ {A : Type 0} where
   pub before-asym : (f : Forest A) → Distinct (preorder f) → (u v : A) → Before u v f → Before v u f → ⊥
   before-asym f d u v h k = earlier-asym (preorder f) d u v h k
 
-  pub ancestor-irrefl : (f : Forest A) → Distinct (preorder f) → (v : A) → Ancestor v v f → ⊥
+  ancestor-irrefl : (f : Forest A) → Distinct (preorder f) → (v : A) → Ancestor v v f → ⊥
   ancestor-irrefl nil d v h = h
   ancestor-irrefl (node a c s) d v (inl (e, h)) = apart a c s d .entry-children v e h
   ancestor-irrefl (node a c s) d v (inr (inl h)) = ancestor-irrefl c (apart a c s d .children) v h
   ancestor-irrefl (node a c s) d v (inr (inr h)) = ancestor-irrefl s (apart a c s d .next) v h
 
-  pub ancestor-trans : (f : Forest A) → Distinct (preorder f) → (u v w : A) → Ancestor u v f → Ancestor v w f → Ancestor u w f
+  ancestor-trans : (f : Forest A) → Distinct (preorder f) → (u v w : A) → Ancestor u v f → Ancestor v w f → Ancestor u w f
   ancestor-trans nil d u v w h k = h
   ancestor-trans (node a c s) d u v w h k =
       go (apart a c s d) (λ t. ancestor-trans c t u v w) (λ t. ancestor-trans s t u v w) h k
@@ -61,7 +61,7 @@ module _ {A : Type 0} where
       go t p q (inr (inr h)) (inr (inr k)) = inr (inr (q (t .next) h k))
 
   -- XPath: the axes do not overlap; for the pairs with the order turned round this is `before-asym`
-  pub ancestor-preceding : (f : Forest A) → Distinct (preorder f) → (u v : A) → Ancestor u v f → Preceding u v f → ⊥
+  ancestor-preceding : (f : Forest A) → Distinct (preorder f) → (u v : A) → Ancestor u v f → Preceding u v f → ⊥
   ancestor-preceding nil d u v h k = h
   ancestor-preceding (node a c s) d u v (inl h) (inl k) = apart a c s d .children-next v (h .1) (k .1)
   ancestor-preceding (node a c s) d u v (inl h) (inr (inl k)) = apart a c s d .entry-children u (h .0) (preceding-has c u v k)
@@ -77,7 +77,7 @@ module _ {A : Type 0} where
   ancestor-preceding (node a c s) d u v (inr (inr h)) (inr (inr k)) = ancestor-preceding s (apart a c s d .next) u v h k
 
   -- an entry of the first row has no parent
-  pub row-orphan : (f : Forest A) → Distinct (preorder f) → (u v : A) → OfRow v f → Parent u v f → ⊥
+  row-orphan : (f : Forest A) → Distinct (preorder f) → (u v : A) → OfRow v f → Parent u v f → ⊥
   row-orphan nil d u v h k = h
   row-orphan (node a c s) d u v (inl e) (inl k) = apart a c s d .entry-children v e (row-has c v (k .1))
   row-orphan (node a c s) d u v (inl e) (inr (inl k)) = apart a c s d .entry-children v e (parent-has c u v k .1)
@@ -86,7 +86,7 @@ module _ {A : Type 0} where
   row-orphan (node a c s) d u v (inr h) (inr (inl k)) = apart a c s d .children-next v (parent-has c u v k .1) (row-has s v h)
   row-orphan (node a c s) d u v (inr h) (inr (inr k)) = row-orphan s (apart a c s d .next) u v h k
 
-  pub one-parent : (f : Forest A) → Distinct (preorder f) → (u v w : A) → Parent u w f → Parent v w f → u ≡ v
+  one-parent : (f : Forest A) → Distinct (preorder f) → (u v w : A) → Parent u w f → Parent v w f → u ≡ v
   one-parent nil d u v w h k = absurd h
   one-parent (node a c s) d u v w (inl h) (inl k) = h .0 ∙ sym (k .0)
   one-parent (node a c s) d u v w (inl h) (inr (inl k)) = absurd (row-orphan c (apart a c s d .children) v w (h .1) k)

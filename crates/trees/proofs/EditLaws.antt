@@ -15,7 +15,7 @@ use Rattle.trees.proofs.ForestLaws.{length-preorder}
 use Rattle.trees.proofs.ImageLaws.{size-image}
 
 module _ {A : Type 0} where
-  pub preorder-join : (f g : Forest A) → preorder (join f g) ≡ preorder f ++ preorder g
+  preorder-join : (f g : Forest A) → preorder (join f g) ≡ preorder f ++ preorder g
   preorder-join nil g = refl
   preorder-join (node a c s) g = rw (preorder-join s g) (ap (λ (l : List A). a ∷ l)
       (sym (append-assoc (preorder c) (preorder s) (preorder g))))
@@ -63,7 +63,7 @@ module _ {A : Type 0} where
       join-nil (node a c s) = ap (node a c) (join-nil s)
   put-front g (node a c s) = refl
 
-  pub ahead-front : (f : Forest A) → ahead f (frontSpot f) ≡ []
+  ahead-front : (f : Forest A) → ahead f (frontSpot f) ≡ []
   ahead-front nil = refl
   ahead-front (node a c s) = refl
 
@@ -119,7 +119,7 @@ module _ {A : Type 0} where
       pub leaf-down : leaf? (suc i) (node a c s) ≡ leaf? i c
       leaf-down = rw (lt-ltb i (size c) h) refl
 
-      pub without-down : without (suc i) (node a c s) ≡ node a (without i c) s
+      without-down : without (suc i) (node a c s) ≡ node a (without i c) s
       without-down = rw (lt-ltb i (size c) h) refl
 
     module _ (i : ℕ) where
@@ -135,7 +135,7 @@ module _ {A : Type 0} where
       pub leaf-on : leaf? (suc (size c + i)) (node a c s) ≡ leaf? i s
       leaf-on = rw (past, left-over) refl
 
-      pub without-on : without (suc (size c + i)) (node a c s) ≡ node a c (without i s)
+      without-on : without (suc (size c + i)) (node a c s) ≡ node a c (without i s)
       without-on = rw (past, left-over) refl
 
   -- a leaf that is taken out is put back at its place

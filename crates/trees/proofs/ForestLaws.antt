@@ -48,7 +48,7 @@ module _ {A : Type 0} where
   ancestor-has (node a c s) u v (inr (inl h)) = let k = ancestor-has c u v h in (inr (inl (k .0)), inr (inl (k .1)))
   ancestor-has (node a c s) u v (inr (inr h)) = let k = ancestor-has s u v h in (inr (inr (k .0)), inr (inr (k .1)))
 
-  pub parent-ancestor : (f : Forest A) (u v : A) → Parent u v f → Ancestor u v f
+  parent-ancestor : (f : Forest A) (u v : A) → Parent u v f → Ancestor u v f
   parent-ancestor nil u v h = h
   parent-ancestor (node a c s) u v (inl (e, h)) = inl (e, row-has c v h)
   parent-ancestor (node a c s) u v (inr (inl h)) = inr (inl (parent-ancestor c u v h))
@@ -71,7 +71,7 @@ module _ {A : Type 0} where
     pub precedings : (u v : A) → Preceding u v f → Preceding u v g
     pub befores : (u v : A) → Before u v f → Before u v g
 
-  pub children-part : (a : A) (c s : Forest A) → PartOf c (node a c s)
+  children-part : (a : A) (c s : Forest A) → PartOf c (node a c s)
   children-part a c s = record {
     parents = λ u v h. inr (inl h);
     ancestors = λ u v h. inr (inl h);
@@ -103,14 +103,14 @@ module _ {A : Type 0} where
       go (inr (u, k)) = inr (u, inr (inr k))
 
   -- XPath: the ancestors are the parent, and the parent's parent and so on
-  abbrev pub Upward : A → A → Forest A → Type 0
+  abbrev Upward : A → A → Forest A → Type 0
   Upward u v f = Parent u v f ⊎ ((w : A) × Ancestor u w f × Parent w v f)
 
   upward-part : (f g : Forest A) → PartOf f g → (u v : A) → Upward u v f → Upward u v g
   upward-part f g t u v (inl h) = inl (t .parents u v h)
   upward-part f g t u v (inr (w, h, k)) = inr (w, t .ancestors u w h, t .parents w v k)
 
-  pub ancestor-upward : (f : Forest A) (u v : A) → Ancestor u v f → Upward u v f
+  ancestor-upward : (f : Forest A) (u v : A) → Ancestor u v f → Upward u v f
   ancestor-upward nil u v h = absurd h
   ancestor-upward (node a c s) u v (inl (e, h)) = go (has-parent c v h)
     where
@@ -163,13 +163,13 @@ module _ {A : Type 0} where
       go p q (inr (inr k)) = ahead-part s _ (next-part a c s) u v (q k)
 
   -- 01: an ancestor is before its descendants
-  pub ancestor-before : (f : Forest A) (u v : A) → Ancestor u v f → Before u v f
+  ancestor-before : (f : Forest A) (u v : A) → Ancestor u v f → Before u v f
   ancestor-before nil u v h = h
   ancestor-before (node a c s) u v (inl (e, h)) = inl (e, member-left (preorder c) (preorder s) v (has→member c v h))
   ancestor-before (node a c s) u v (inr (inl h)) = children-part a c s .befores u v (ancestor-before c u v h)
   ancestor-before (node a c s) u v (inr (inr h)) = next-part a c s .befores u v (ancestor-before s u v h)
 
-  pub preceding-before : (f : Forest A) (u v : A) → Preceding u v f → Before u v f
+  preceding-before : (f : Forest A) (u v : A) → Preceding u v f → Before u v f
   preceding-before nil u v h = h
   preceding-before (node a c s) u v (inl (inl e, h)) = inl (e, member-right (preorder c) (preorder s) v (has→member s v h))
   preceding-before (node a c s) u v (inl (inr h, k)) =

@@ -30,7 +30,7 @@ module _ {A B : Type 0} (g : A → B) where
   preorder-image (node a c s) = cc (preorder-image c, preorder-image s, map-append g (preorder c) (preorder s))
 
   -- what the axes say of two entries they say of their images
-  pub has-image : (f : Forest A) (v : A) → Has v f → Has (g v) (image g f)
+  has-image : (f : Forest A) (v : A) → Has v f → Has (g v) (image g f)
   has-image nil v h = h
   has-image (node a c s) v (inl e) = inl (ap g e)
   has-image (node a c s) v (inr (inl h)) = inr (inl (has-image c v h))

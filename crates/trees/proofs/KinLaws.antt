@@ -18,7 +18,7 @@ use Rattle.trees.proofs.DistinctLaws.{sibling-parent, parent-sibling}
 use Rattle.trees.proofs.TourLaws.{under-real, at, inside}
 
 module _ {A : Type 0} (st en : A → Digits) where
-  pub ancestor-above : (f : Forest A) (l r : Digits) → Rising l (tour st en f) r → (u v : A) → Ancestor u v f → AboveCodes st en u v
+  ancestor-above : (f : Forest A) (l r : Digits) → Rising l (tour st en f) r → (u v : A) → Ancestor u v f → AboveCodes st en u v
   ancestor-above nil l r h u v k = absurd k
   ancestor-above (node a c s) l r h u v (inl (e, k)) =
       let t = at st en l r a c s h in
@@ -28,7 +28,7 @@ module _ {A : Type 0} (st en : A → Digits) where
   ancestor-above (node a c s) l r h u v (inr (inr k)) = ancestor-above s (en a) r (at st en l r a c s h .next) u v k
 
   -- a preceding entry ends before the other starts
-  pub preceding-ends : (f : Forest A) (l r : Digits) → Rising l (tour st en f) r → (u v : A) → Preceding u v f → Below (en u) (st v)
+  preceding-ends : (f : Forest A) (l r : Digits) → Rising l (tour st en f) r → (u v : A) → Preceding u v f → Below (en u) (st v)
   preceding-ends nil l r h u v k = absurd k
   preceding-ends (node a c s) l r h u v (inl (inl e, k)) = rw e (inside st en s (en a) r (at st en l r a c s h .next) v k .above)
   preceding-ends (node a c s) l r h u v (inl (inr j, k)) =
@@ -54,7 +54,7 @@ module _ {A : Type 0} (st en : A → Digits) where
             below-trans (st u) (en u) (st v) (start-end u (preceding-has f u v k)) (preceding-ends f [] [] rises u v k)
 
     -- in document order the starts rise, so no entry stands twice
-    pub starts-rise : Pairs (OrderCodes st) (preorder f)
+    starts-rise : Pairs (OrderCodes st) (preorder f)
     starts-rise = →pairs (OrderCodes st) (preorder f) before→order
 
     pub rises-distinct : Distinct (preorder f)
@@ -94,12 +94,12 @@ module _ {A : Type 0} (st en : A → Digits) where
             absurd (below-asym (st u) (st v) (b .0) c)
 
 module _ {A : Type 0} (st ps : A → Digits) where
-  pub row-parent : (p : Digits) (f : Forest A) (v : A) → Parents st ps p f → OfRow v f → ps v ≡ p
+  row-parent : (p : Digits) (f : Forest A) (v : A) → Parents st ps p f → OfRow v f → ps v ≡ p
   row-parent p nil v h k = absurd k
   row-parent p (node a c s) v h (inl e) = rw e (h .0)
   row-parent p (node a c s) v h (inr k) = row-parent p s v (h .2) k
 
-  pub parent-start : (p : Digits) (f : Forest A) (u v : A) → Parents st ps p f → Parent u v f → ps v ≡ st u
+  parent-start : (p : Digits) (f : Forest A) (u v : A) → Parents st ps p f → Parent u v f → ps v ≡ st u
   parent-start p nil u v h k = absurd k
   parent-start p (node a c s) u v h (inl (e, k)) = rw e (row-parent (st a) c v (h .1) k)
   parent-start p (node a c s) u v h (inr (inl k)) = parent-start (st a) c u v (h .1) k

@@ -35,7 +35,7 @@ module _ {A : Type 0} where
   names u = u .name
 
   -- whatever the codes, the tree is the one labelled, and each parent start the parent's start
-  pub plain-fill : (p : Digits) (f : Forest A) (xs : List Digits) → plain (fill p f xs) ≡ f
+  plain-fill : (p : Digits) (f : Forest A) (xs : List Digits) → plain (fill p f xs) ≡ f
   plain-fill p nil xs = refl
   plain-fill p (node a c s) xs = cc (plain-fill (getD xs 0 []) c (drop 1 xs), plain-fill p s (drop (suc (suc (2 * size c))) xs))
 
@@ -45,7 +45,7 @@ module _ {A : Type 0} where
       (refl, parents-fill (getD xs 0 []) c (drop 1 xs), parents-fill p s (drop (suc (suc (2 * size c))) xs))
 
   -- the codes along the tour are those of the list
-  pub codes-fill : (p : Digits) (f : Forest A) (xs : List Digits) → 2 * size f ≤ length xs → codes (fill p f xs) ≡ take (2 * size f) xs
+  codes-fill : (p : Digits) (f : Forest A) (xs : List Digits) → 2 * size f ≤ length xs → codes (fill p f xs) ≡ take (2 * size f) xs
   codes-fill p nil xs h = refl
   codes-fill p (node a c s) [] h = absurd (omega arith)
   codes-fill p (node a c s) (x ∷ xs) h =
@@ -67,7 +67,7 @@ module _ {A : Type 0} where
   pub size-labelled : (f : Forest A) → size (labelled f) ≡ size f
   size-labelled f = sym (size-image names (labelled f)) ∙ ap size (plain-labelled f)
 
-  pub rises-labelled : (f : Forest A) → Rises starts ends (labelled f)
+  rises-labelled : (f : Forest A) → Rises starts ends (labelled f)
   rises-labelled f = rw (codes-labelled f) (thirds-rising [] [] (2 * size f + 1) open-gap)
 
   -- demand 3: at most m digits, m least such that 3 ^ m > 2N
@@ -84,7 +84,7 @@ module _ {A : Type 0} where
     height = height-image names k (labelled f) (rw (plain-labelled f) h);
   }
 
-  pub sound-labelled : (k m : ℕ) (f : Forest A) → Height k f → Enough 3 (2 * size f) m → Sound (Within 1 3 m) k [] [] [] (labelled f)
+  sound-labelled : (k m : ℕ) (f : Forest A) → Height k f → Enough 3 (2 * size f) m → Sound (Within 1 3 m) k [] [] [] (labelled f)
   sound-labelled k m f h e = labelled-sound (Within 1 3 m) k f h (within-labelled f m e)
 
   pub rooted-labelled : (deepest : ℕ) (p : A × ℕ) (t : List (A × ℕ)) → Ruled deepest (p ∷ t) → Rooted (labelled (forest (p ∷ t)))

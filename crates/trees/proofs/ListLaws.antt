@@ -45,7 +45,7 @@ module _ {A : Type 0} (R : A → A → Type 0) where
   pairs-cross [] ys h = tt
   pairs-cross (x ∷ xs) ys h = (all-right (R x) xs ys (h .0), pairs-cross xs ys (h .1))
 
-  pub pairs-append : (xs ys : List A) → Pairs R xs → Pairs R ys → All (λ x. All (R x) ys) xs → Pairs R (xs ++ ys)
+  pairs-append : (xs ys : List A) → Pairs R xs → Pairs R ys → All (λ x. All (R x) ys) xs → Pairs R (xs ++ ys)
   pairs-append [] ys h k c = k
   pairs-append (x ∷ xs) ys h k c = (all-append (R x) xs ys (h .0) (c .0), pairs-append xs ys (h .1) k (c .1))
 
@@ -53,7 +53,7 @@ module _ {A : Type 0} (R : A → A → Type 0) where
   →pairs [] h = tt
   →pairs (x ∷ xs) h = (→all (R x) xs (λ v m. h x v (inl (refl, m))), →pairs xs (λ u v m. h u v (inr m)))
 
-  pub pairs→ : (xs : List A) → Pairs R xs → (u v : A) → Earlier u v xs → R u v
+  pairs→ : (xs : List A) → Pairs R xs → (u v : A) → Earlier u v xs → R u v
   pairs→ [] h u v m = absurd m
   pairs→ (x ∷ xs) h u v (inl (e, m)) = rw e (all→ (R x) xs (h .0) v m)
   pairs→ (x ∷ xs) h u v (inr m) = pairs→ xs (h .1) u v m
@@ -135,7 +135,7 @@ module _ {A : Type 0} where
       let p = all-part (λ y. x ≢ y) xs ys a (d .0) in
       (all-append (λ y. x ≢ y) xs ys (p .0) (p .2), distinct-cut a xs ys (d .1))
 
-  pub earlier-members : (xs : List A) (u v : A) → Earlier u v xs → Member u xs × Member v xs
+  earlier-members : (xs : List A) (u v : A) → Earlier u v xs → Member u xs × Member v xs
   earlier-members [] u v h = absurd h
   earlier-members (x ∷ xs) u v (inl (e, m)) = (inl e, inr m)
   earlier-members (x ∷ xs) u v (inr h) = let m = earlier-members xs u v h in (inr (m .0), inr (m .1))

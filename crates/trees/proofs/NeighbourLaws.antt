@@ -88,11 +88,11 @@ rising-gap l r [] (z ∷ zs) h = below-under l z (h .0)
 rising-gap l r (x ∷ xs) zs h = rising-gap x r xs zs (h .1)
 
 module _ (P : Digits → Type 0) where
-  pub last-all : (l : Digits) (xs : List Digits) → P l → All P xs → P (lastOr l xs)
+  last-all : (l : Digits) (xs : List Digits) → P l → All P xs → P (lastOr l xs)
   last-all l [] p h = p
   last-all l (x ∷ xs) p h = last-all x xs (h .0) (h .1)
 
-  pub head-all : (r : Digits) (xs : List Digits) → P r → All P xs → P (headOr r xs)
+  head-all : (r : Digits) (xs : List Digits) → P r → All P xs → P (headOr r xs)
   head-all r [] p h = p
   head-all r (x ∷ xs) p h = h .0
 
@@ -120,21 +120,14 @@ module _ {A : Type 0} where
   parents-cut p g (node u c s) (inr (inl q)) h = (h .0, parents-cut (u .start) g c q (h .1), h .2)
   parents-cut p g (node u c s) (inr (inr q)) h = (h .0, h .1, parents-cut p g s q (h .2))
 
-  -- the parent start of what is put in under an entry is one of the codes
+  -- the parent start of what is put in is one of the codes, or the forest's own
   module _ (P : Digits → Type 0) where
-    parent-kept : (p : Digits) (f : Forest (Entry A)) (q : Spot f) → P p → All P (codes f) → P (parentAt p f q)
-    parent-kept p nil q i a = i
-    parent-kept p (node u c s) (inl q) i a = i
-    parent-kept p (node u c s) (inr (inl q)) i a =
-        parent-kept (u .start) c q (a .0) (all-part P (codes c) (codes s) (u .end) (a .1) .0)
-    parent-kept p (node u c s) (inr (inr q)) i a = parent-kept p s q i (all-part P (codes c) (codes s) (u .end) (a .1) .2)
-
-    pub parent-inner : (p : Digits) (f : Forest (Entry A)) (q : Spot f) → All P (codes f) → 0 < levelAt f q → P (parentAt p f q)
-    parent-inner p nil q a h = absurd (omega arith)
-    parent-inner p (node u c s) (inl q) a h = absurd (omega arith)
-    parent-inner p (node u c s) (inr (inl q)) a h =
-        parent-kept (u .start) c q (a .0) (all-part P (codes c) (codes s) (u .end) (a .1) .0)
-    parent-inner p (node u c s) (inr (inr q)) a h = parent-inner p s q (all-part P (codes c) (codes s) (u .end) (a .1) .2) h
+    pub parent-in : (p : Digits) (f : Forest (Entry A)) (q : Spot f) → (levelAt f q ≡ 0 → P p) → All P (codes f) → P (parentAt p f q)
+    parent-in p nil q i a = i refl
+    parent-in p (node u c s) (inl q) i a = i refl
+    parent-in p (node u c s) (inr (inl q)) i a =
+        parent-in (u .start) c q (λ _. a .0) (all-part P (codes c) (codes s) (u .end) (a .1) .0)
+    parent-in p (node u c s) (inr (inr q)) i a = parent-in p s q i (all-part P (codes c) (codes s) (u .end) (a .1) .2)
 
   module _ (Code : Digits → Type 0) (k : ℕ) (g f : Forest (Entry A)) (q : Spot f) where
     abbrev front : List Digits
@@ -203,7 +196,7 @@ module _ {A : Type 0} where
         (all-map (Within 1 3 m) (λ x. (x ≡ []) ⊎ Within 1 3 m x) (λ x w. inr w) xs
         (all-right (Within 1 3 m) (codesAhead starts ends f q) xs coded-spot)))
 
-    pub spot-gap : Gap L R
+    spot-gap : Gap L R
     spot-gap = record {
       left = left-side .0;
       right = right-side .0;

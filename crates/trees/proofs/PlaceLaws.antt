@@ -25,11 +25,11 @@ abbrev pub Own : Bool → Digits → Digits → Digits → Type 0
 Own true x l r = l ≡ x
 Own false x l r = r ≡ x
 
-own-left : (up : Bool) (x l m r : Digits) → l ≡ m → Own up x m r → Own up x l r
-own-left up x l m r e h = rw e h
+with-left : (up : Bool) (x l m r : Digits) → l ≡ m → Own up x m r → Own up x l r
+with-left up x l m r e h = rw e h
 
-own-right : (up : Bool) (x l r s : Digits) → r ≡ s → Own up x l s → Own up x l r
-own-right up x l r s e h = rw e h
+with-right : (up : Bool) (x l r s : Digits) → r ≡ s → Own up x l s → Own up x l r
+with-right up x l r s e h = rw e h
 
 module _ {A : Type 0} where
   -- in front of a row and at its end there is nothing before and nothing behind
@@ -98,7 +98,7 @@ module _ {A : Type 0} where
       List·getD-append (rows (suc d) c) (rows d s) z i m in
       rw (e, spot-down u c s i h w)
       (record {
-        own = own-right (upward? w) (ownCode w _) _ _ _
+        own = with-right (upward? w) (ownCode w _) _ _ _
             (head-append r (u .end) (codesBehind starts ends c (spotOf w i c)) (tour starts ends s)) (b .own);
         parented = b .parented;
         level = omega (arith, b .level);
@@ -113,7 +113,7 @@ module _ {A : Type 0} where
       ∙ getD-append-add (rows (suc d) c) (rows d s) i z in
       rw (e, spot-on u c s i w)
       (record {
-        own = own-left (upward? w) (ownCode w _) _ _ _
+        own = with-left (upward? w) (ownCode w _) _ _ _
             (last-append (u .start) (u .end) (tour starts ends c) (codesAhead starts ends s (spotOf w i s))) (b .own);
         parented = b .parented;
         level = b .level;

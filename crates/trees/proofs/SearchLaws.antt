@@ -17,7 +17,6 @@ use Rattle.digits.proofs.ListLaws.{all-map, all-part}
 use Rattle.digits.proofs.OrderLaws.{below-irrefl, below-asym, below?-true, below?-false}
 use Rattle.trees.specs.Lists.{Member, Pairs}
 use Rattle.trees.specs.Forest.{Forest, nil, node, size, preorder, Rooted}
-use Rattle.trees.specs.Tour.{tour}
 use Rattle.trees.specs.Labelled.{Entry, starts, ends, codes}
 use Rattle.trees.specs.Edit.{lastChild, Spot, ahead, behind, levelAt, endSpot, spotOf, none?, leaf?}
 use Rattle.trees.specs.Neighbours.{lastOr, headOr, codesAhead, codesBehind, leftOf, rightOf}
@@ -34,7 +33,7 @@ abbrev pub other : Bool → Digits → Digits → Digits
 other up l r = cond up r l
 
 -- x is before y, going upward or downward
-abbrev pub Toward : Bool → Digits → Digits → Type 0
+abbrev Toward : Bool → Digits → Digits → Type 0
 Toward true x y = Below x y
 Toward false x y = Below y x
 
@@ -246,7 +245,7 @@ module _ {A : Type 0} where
     before-back = all-map (λ y. All (Below y) back) (λ y. Below y R) (λ y a. all→ (Below y) back a R in-back) front
         (pairs-cross Below front back pairs-spot)
 
-    pub left-below-right : Below L R
+    left-below-right : Below L R
     left-below-right = all→ (λ y. Below y R) front before-back L in-front
 
     front-most : All (λ y. (y ≡ L) ⊎ Below y L) front

@@ -15,7 +15,7 @@ use Rattle.trees.proofs.ListLaws.{all-append, map-append}
 
 module _ {A : Type 0} where
   -- nothing of depth d or deeper comes first
-  abbrev pub Low : ℕ → List (A × ℕ) → Type 0
+  abbrev Low : ℕ → List (A × ℕ) → Type 0
   Low d [] = Unit {0}
   Low d (p ∷ t) = p .1 < d
 
@@ -110,7 +110,7 @@ module _ {A : Type 0} where
       go Ordering·gt (gt h) a b = rest-high (suc d) p t h ∙ a
 
   -- the rows come back from their forest
-  pub rows-forest : (t : List (A × ℕ)) → Steps 0 t → rows 0 (forest t) ≡ t
+  rows-forest : (t : List (A × ℕ)) → Steps 0 t → rows 0 (forest t) ≡ t
   rows-forest t s =
       let a = layer 0 0 t s in
       let b = rest-zero t in
@@ -124,7 +124,7 @@ module _ {A : Type 0} where
       rw (append-assoc (rows (suc d) c) (rows d n) t)
       (h, steps-append (suc d) (suc d) c (rows d n ++ t) (omega arith) (λ j i. steps-append d j n t (omega arith) s))
 
-  pub steps-rows : (d : ℕ) (f : Forest A) → Steps d (rows d f)
+  steps-rows : (d : ℕ) (f : Forest A) → Steps d (rows d f)
   steps-rows d f = rw append-nil at (steps-append d d f [] (omega arith) (λ j i. tt))
 
   -- every depth of a forest of k levels, counted from d
@@ -139,7 +139,7 @@ module _ {A : Type 0} where
       (omega arith, all-append (λ p. (d ≤ p .1) × (p .1 < d + k)) (rows (suc d) c) (rows d s) q (height-rows k d s (h .2)))
 
   -- and a table of depths below k has at most k levels
-  pub table-height : (k d : ℕ) (t : List (A × ℕ)) → All (λ p. p .1 < k) t → Height (k - d) (forestAt d t)
+  table-height : (k d : ℕ) (t : List (A × ℕ)) → All (λ p. p .1 < k) t → Height (k - d) (forestAt d t)
   table-height k d [] a = tt
   table-height k d (p ∷ t) a = go (compare (p .1) d) (compared (p .1) d) (table-height k (suc d) t (a .1)) (table-height k d t (a .1))
     where
@@ -155,7 +155,7 @@ module _ {A : Type 0} where
   rows-height k f a = rw (forest-rows f, sub-zero) at (table-height k 0 (rows 0 f) a)
 
   -- a later row's depth, whatever the row before it
-  abbrev pub Inner : ℕ → A × ℕ → Type 0
+  abbrev Inner : ℕ → A × ℕ → Type 0
   Inner deepest p = (1 ≤ p .1) × (p .1 < 1 + deepest)
 
   -- 01's rule for the later rows is steps and inner depths

@@ -25,16 +25,16 @@ pub rising-under : (l : Digits) (xs : List Digits) (r : Digits) → Rising l xs 
 rising-under l [] r h = h
 rising-under l (x ∷ xs) r h = under-trans l x r (h .0) (rising-under x xs r (h .1))
 
-pub rising-below : (l x r : Digits) (xs ys : List Digits) → Rising l (xs ++ (x ∷ ys)) r → Below l x
+rising-below : (l x r : Digits) (xs ys : List Digits) → Rising l (xs ++ (x ∷ ys)) r → Below l x
 rising-below l x r [] ys h = h .0
 rising-below l x r (z ∷ xs) ys h = below-trans l z x (h .0) (rising-below z x r xs ys (h .1))
 
-pub rising-left : (l x r : Digits) (xs ys : List Digits) → Rising l (xs ++ (x ∷ ys)) r → Rising l xs x
+rising-left : (l x r : Digits) (xs ys : List Digits) → Rising l (xs ++ (x ∷ ys)) r → Rising l xs x
 rising-left l [] r [] ys h = absurd (below-nil l (h .0))
 rising-left l (a ∷ x) r [] ys h = h .0
 rising-left l x r (z ∷ xs) ys h = (h .0, rising-left z x r xs ys (h .1))
 
-pub rising-right : (l x r : Digits) (xs ys : List Digits) → Rising l (xs ++ (x ∷ ys)) r → Rising x ys r
+rising-right : (l x r : Digits) (xs ys : List Digits) → Rising l (xs ++ (x ∷ ys)) r → Rising x ys r
 rising-right l x r [] ys h = h .1
 rising-right l x r (z ∷ xs) ys h = rising-right z x r xs ys (h .1)
 
@@ -45,7 +45,7 @@ rising-all z l (x ∷ xs) r b h =
     let c = below-trans z l x b (h .0) in
     (c, rising-all z x xs r c (h .1))
 
-pub rising-first : (l : Digits) (xs : List Digits) (r : Digits) → Rising l xs r → All (Below l) xs
+rising-first : (l : Digits) (xs : List Digits) (r : Digits) → Rising l xs r → All (Below l) xs
 rising-first l [] r h = tt
 rising-first l (x ∷ xs) r h = (h .0, rising-all l x xs r (h .0) (h .1))
 

@@ -91,7 +91,7 @@ module _ {A : Type 0} (st en : A → Digits) (ok : ℕ → Digits → Digits →
           read-on k p l r x xs ys zs o (read (pred k) (st x) (st x) (en x) xs zs c) (read k p (en x) r zs ys s)
 
   -- what is left is an end of the list
-  pub walk-rest : (n k : ℕ) (p l r : Digits) (xs ys : List A) → walkRow st en ok n k p l r xs ≡ rest ys
+  walk-rest : (n k : ℕ) (p l r : Digits) (xs ys : List A) → walkRow st en ok n k p l r xs ≡ rest ys
       → (length ys ≤ length xs) × (drop (length xs - length ys) xs ≡ ys)
   walk-rest n k p l r xs ys e =
       let t = walk-read n k p l r xs ys e in
@@ -104,7 +104,7 @@ module _ {A : Type 0} (st en : A → Digits) (ok : ℕ → Digits → Digits →
   row-rest k p l r xs = walk-rest (suc (length xs)) k p l r xs
 
   -- more steps than entries are enough
-  pub walk-enough : (n m k : ℕ) (p l r : Digits) (xs : List A) → length xs < n → length xs < m
+  walk-enough : (n m k : ℕ) (p l r : Digits) (xs : List A) → length xs < n → length xs < m
       → walkRow st en ok n k p l r xs ≡ walkRow st en ok m k p l r xs
   unfolding walkRow
   walk-enough zero m k p l r xs h i = absurd (omega arith)

@@ -12,7 +12,7 @@ use Rattle.trees.specs.Labelled.{Name, Entry, starts, ends}
 use Rattle.trees.specs.Edit.{spotOf}
 use Rattle.trees.specs.Neighbours.{leftOf, rightOf}
 use Rattle.trees.specs.Search.{leading}
-use Rattle.registers.specs.Questions.{linesOf, treeOf}
+use Rattle.registers.specs.Questions.{linesOf, treeIn}
 use Rattle.registers.proofs.QuestionLaws.{parts-of}
 use Rattle.edits.specs.Edits.{whereOf}
 use Rattle.edits.proofs.SpliceLaws.{same-inserted}
@@ -26,7 +26,7 @@ use Rattle.edits.proofs.put_in.Tie as tie
 -- the new start and the new end, as they were made
 started : (c : tie.After-step) →
     let a = c .before .before .before .before .before .before .before .before .args in
-    let f = treeOf (linesOf (a .register .now)) in
+    let f = treeIn (a .register .now) in
     let q = spotOf (whereOf (a .place)) (a .at) f in
     Held (c .step .result) (startOf (leftOf starts ends f q) (rightOf starts ends f q))
 started c =
@@ -36,7 +36,7 @@ started c =
 
 ended : (c : tie.After-step2) →
     let a = c .before .before .before .before .before .before .before .before .before .before .before .args in
-    let f = treeOf (linesOf (a .register .now)) in
+    let f = treeIn (a .register .now) in
     let q = spotOf (whereOf (a .place)) (a .at) f in
     Held (c .step2 .result) (endOf (leftOf starts ends f q) (rightOf starts ends f q))
 ended c =
@@ -75,7 +75,7 @@ returns c =
     let step = len .before in
     let start = step .before .before .before .before .before .before .before .before in
     let a = start .args in
-    let f = treeOf (linesOf (a .register .now)) in
+    let f = treeIn (a .register .now) in
     gives _ _ _ _ _
     (put-long (a .register .now) (record { identity = a .identity; tag = a .tag }) f (spotOf (whereOf (a .place)) (a .at) f)
     (omega (arith, started step .count, len .len .ensures))) refl refl
@@ -100,7 +100,7 @@ returns-2 c =
     let step = len .before in
     let start = step .before .before .before .before .before .before .before .before in
     let a = start .args in
-    let f = treeOf (linesOf (a .register .now)) in
+    let f = treeIn (a .register .now) in
     gives _ _ _ _ _
     (put-long-end (a .register .now) (record { identity = a .identity; tag = a .tag }) f (spotOf (whereOf (a .place)) (a .at) f)
     (omega (arith, started step .count, len .len .ensures)) (omega (arith, ended step2 .count, len2 .len2 .ensures))) refl refl
@@ -133,7 +133,7 @@ write-in-requires c κs =
     let step = len .before in
     let a = step .before .before .before .before .before .before .before .before in
     let b = a .args .register .now in
-    let f = treeOf (linesOf b) in
+    let f = treeIn b in
     let n = new-codes b (a .pre .0) (record { identity = a .args .identity; tag = a .args .tag })
     (spotOf (whereOf (a .args .place)) (a .args .at) f) in
     let p = parent-found b (a .pre .0) (whereOf (a .args .place)) (a .args .at) (a .pre .1 .0) (a .pre .1 .1 .0) _
@@ -174,7 +174,7 @@ returns-3 c =
     let w = whereOf (a .args .place) in
     let i = a .args .at in
     let m : Name = record { identity = a .args .identity; tag = a .args .tag } in
-    let f : Forest (Entry Name) = treeOf (linesOf b) in
+    let f : Forest (Entry Name) = treeIn b in
     let g = neighbours .neighbours .ensures .1 in
     let p = parent-found b (a .pre .0) w i (a .pre .1 .0) (a .pre .1 .1 .0) _ (parent-from .parent-from .ensures) in
     let s = started step in

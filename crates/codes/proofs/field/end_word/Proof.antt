@@ -1,6 +1,4 @@
 -- A code ends in a word by the word's zeros, and in no word of zeros. Assumes nothing.
-use mathlib.Core.Path.{refl, ap, _∙_}
-use Rattle.codes.specs.Words.{ended}
 use borrow.Author.Needs.{needs}
 use Rattle.codes.proofs.DigitLaws.{ended-zero}
 use Rattle.codes.proofs.field.end_word.Statement.{statement}

@@ -1,5 +1,5 @@
 -- `Packer::push` meets its contract: the byte goes on or begins anew, and the digit is shifted to its place. Assumes nothing.
-use mathlib.Core.Path.{_≡_, refl, ap, _∙_}
+use mathlib.Core.Path.{_≡_, refl}
 use mathlib.Core.Logic.{⊎-elim}
 use Prim.Native.Nat.{ℕ, _+_, _*_, _-_, _%_, _^_}
 use native.Mathlib.Omega.{arith}
