@@ -21,16 +21,16 @@
 extern "C" {
 #endif
 
-/* Code: 1 to 127 digits, each 1, 2 or 3, the last 2 or 3. Unpacked, one byte a digit, of value 1, 2 or 3 (not '1').
- * Field: a packed code, 32 bytes. Two bits a digit, the first digit in the highest bits of the first byte, then zero bits
- * to the end. The fill is part of the field: a code cut after its last digit is no field. 32 zero bytes: the empty field.
- * Label: three fields, 96 bytes: start at 0, end at 32, parent start at 64. Sound when start and end are codes, start is
- * below end, and the parent start is empty (the root's) or a code below start.
- * Below: the first differing digit decides; a proper prefix is below the longer code.
- * Table: rows of three numbers, identity, tag and depth, in document order. The first depth is 0; each later one is at least
- * 1, at most the previous depth plus 1, and at most 63. Identities are not 0 and all different; a tag is any number.
- * Register: a header, the count of entries at 0 and zero at 4, then the entries in document order, each with its identity at
- * 0, its tag at 4 and its label at 8. A number takes 4 bytes, the lowest first. */
+/* Code: at least one and at most 127 digits out of 1, 2 and 3, not ending in 1. Unpacked, each is a byte of its value, not '1'.
+ * Field: a code packed in 32 bytes, four digits to a byte from the high bits down, and every bit behind the last digit zero.
+ * This fill belongs to it: a code cut after its last digit is no field. The empty field has zero bytes only.
+ * Label: the fields start, end and parent start, at 0, 32 and 64 of its 96 bytes. In a sound one start and end are codes, the
+ * start below the end; the parent start is a code below both or, the root's, the empty field.
+ * Below: of two codes the one with the lower digit where they first differ; if one goes on from the other, the shorter.
+ * Table: for each entry, in document order, a row of identity, tag and depth. Depth 0 stands in the first row and in no other;
+ * from one row to the next it rises by 1 at most, and 63 is the deepest. No identity is 0 or comes twice; any tag will do.
+ * Register: a header with the number of entries at 0 and a zero at 4; behind it the entries in document order, which have their
+ * identity at 0, their tag at 4 and their label at 8. These numbers have 4 bytes each, low byte first. */
 #define PLANT_LONGEST 127 /* digits of the longest code */
 #define PLANT_FIELD 32    /* bytes of a field */
 #define PLANT_LABEL 96    /* bytes of a label */

@@ -121,9 +121,14 @@ fn sides<'a>(left: &'a [u8], right: &'a [u8]) -> Result<(&'a Field, usize, &'a F
     Ok((left, l, right, r))
 }
 
-// The code between, made in the packed field.
-#[inline(never)]
-pub fn between_packed(left: &[u8], right: &[u8], field: &mut [u8]) -> i32 {
+// The code between, made in one of two ways, which write it and answer its number of digits, if it fits.
+#[inline(always)]
+fn between(
+    left: &[u8],
+    right: &[u8],
+    field: &mut [u8],
+    way: impl Fn(&Field, usize, &Field, usize, &mut Field) -> Option<usize>,
+) -> i32 {
     let (left, l, right, r) = match sides(left, right) {
         Ok(sides) => sides,
         Err(refusal) => return refusal,
@@ -131,11 +136,17 @@ pub fn between_packed(left: &[u8], right: &[u8], field: &mut [u8]) -> i32 {
     let Some(field) = field.first_chunk_mut() else {
         return ROOM;
     };
-    let Some((made, n)) = fields::between(left, l, right, r) else {
-        return CODE_LENGTH;
-    };
-    *field = made;
-    n as i32
+    way(left, l, right, r, field).map_or(CODE_LENGTH, |n| n as i32)
+}
+
+// In the packed field.
+#[inline(never)]
+pub fn between_packed(left: &[u8], right: &[u8], field: &mut [u8]) -> i32 {
+    between(left, right, field, |left, l, right, r, field| {
+        let (made, n) = fields::between(left, l, right, r)?;
+        *field = made;
+        Some(n)
+    })
 }
 
 // What the last of some digits becomes, and whether a 2 follows; for an open side the place before the first is left alone.
@@ -149,30 +160,25 @@ fn ending(l: usize, r: usize, last: u8) -> (u8, bool) {
     }
 }
 
-// The code between, made as digits and packed again.
+// As digits, packed again.
 #[inline(never)]
 pub fn between_digits(left: &[u8], right: &[u8], field: &mut [u8]) -> i32 {
-    let (left, l, right, r) = match sides(left, right) {
-        Ok(sides) => sides,
-        Err(refusal) => return refusal,
-    };
-    let Some(field) = field.first_chunk_mut() else {
-        return ROOM;
-    };
-    let (from, count) = if l < r { (right, r) } else { (left, l) };
-    let mut digits = [0; LONGEST + 2]; // one in front, which stands for the last of none
-    for (i, place) in digits[1..=count].iter_mut().enumerate() {
-        *place = digit(from, i);
-    }
-    let (last, longer) = ending(l, r, digits[count]);
-    digits[count] = last;
-    digits[count + 1] = 2;
-    let n = count + usize::from(longer);
-    if n > LONGEST {
-        return CODE_LENGTH;
-    }
-    *field = packed(&digits[1..=n]);
-    n as i32
+    between(left, right, field, |left, l, right, r, field| {
+        let (from, count) = if l < r { (right, r) } else { (left, l) };
+        let mut digits = [0; LONGEST + 2]; // one in front, which stands for the last of none
+        for (i, place) in digits[1..=count].iter_mut().enumerate() {
+            *place = digit(from, i);
+        }
+        let (last, longer) = ending(l, r, digits[count]);
+        digits[count] = last;
+        digits[count + 1] = 2;
+        let n = count + usize::from(longer);
+        if n > LONGEST {
+            return None;
+        }
+        *field = packed(&digits[1..=n]);
+        Some(n)
+    })
 }
 
 #[inline(never)]

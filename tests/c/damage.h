@@ -66,7 +66,7 @@ static void spoil(enum damage damage)
     case COUNT_IS_MORE:
         put_32(reg, (uint32_t)(rows + 1));
         break;
-    case COUNT_IS_LESS: /* sound if one at least is left and none of them has a child left out */
+    case COUNT_IS_LESS: /* sound if one at least is left */
         put_32(reg, (uint32_t)i);
         break;
     case COUNT_IS_ANY:

@@ -11,6 +11,7 @@
 #define _DEFAULT_SOURCE
 #include "guard.h"
 #include "plant.h"
+#include "fields.h"
 #include "tables.h"
 #include "codes.h"
 #include "output.h"
@@ -487,12 +488,8 @@ static void expect_label(uint32_t identity, const char *text)
 /* 01's P8, P9 and P10 */
 static void worked_examples(void)
 {
-    static const uint32_t four[] = {10, 1, 0, 11, 2, 1, 12, 2, 1, 13, 3, 2};
-
     group = "the worked examples";
-    numbers = sizeof four / sizeof four[0];
-    memcpy(table, four, sizeof four);
-    build_first();
+    build_worked();
     start_run();
     keep();
     must_be(try_with_room(FIRST, 12, 14), 0);

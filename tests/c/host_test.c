@@ -9,11 +9,12 @@
 #define _DEFAULT_SOURCE
 #include "guard.h"
 #include "plant.h"
+#include "fields.h"
 
 /* 01's numbers, stated here once more on purpose. */
-enum { LONGEST = 127, FIELD = 32, LABEL = 96, SLOTS = 4 * FIELD };
+enum { LABEL = 96, SLOTS = 4 * FIELD };
 
-_Static_assert(PLANT_LONGEST == LONGEST && PLANT_FIELD == FIELD && PLANT_LABEL == LABEL, "sizes");
+_Static_assert(PLANT_LABEL == LABEL, "size");
 _Static_assert(PLANT_TABLE_SIZE == -100001 && PLANT_ROW_DEPTH == -100002 && PLANT_IDENTITY == -100003, "refusals 1 to 3");
 _Static_assert(PLANT_ROOM == -100004 && PLANT_NO_REGISTER == -100005 && PLANT_NO_TARGET == -100006, "refusals 4 to 6");
 _Static_assert(PLANT_ROOT == -100007 && PLANT_CODE_LENGTH == -100008 && PLANT_CHILDREN == -100009, "refusals 7 to 9");
@@ -202,8 +203,6 @@ static int compare(const struct code *x, const struct code *y)
     return x->d[i] < y->d[i] ? -1 : 1;
 }
 
-static const int weight[4] = {64, 16, 4, 1};
-
 static void write_field(const struct code *x, uint8_t *field)
 {
     for (int b = 0; b < FIELD; b++) {
@@ -223,7 +222,7 @@ static struct code read_field(const uint8_t *field, size_t len)
 
     if (len == FIELD) {
         while (x.n < SLOTS) {
-            int digit = field[x.n / 4] / weight[x.n % 4] % 4;
+            int digit = digit_at(field, x.n);
             if (digit == 0)
                 break;
             x.d[x.n++] = (uint8_t)digit;

@@ -10,6 +10,7 @@
 #define _DEFAULT_SOURCE
 #include "guard.h"
 #include "plant.h"
+#include "fields.h"
 #include "tables.h"
 #include "codes.h"
 #include "output.h"
@@ -203,18 +204,6 @@ static void try_rooms(void)
 
 /* ---- fixed cases ---- */
 
-static void print_field(FILE *to, const uint8_t *field)
-{
-    int n = 0;
-
-    while (n < LONGEST && (field[n / 4] >> (6 - n % 4 * 2) & 3) != 0) {
-        fprintf(to, "%d", field[n / 4] >> (6 - n % 4 * 2) & 3);
-        n++;
-    }
-    if (n == 0)
-        fprintf(to, "-");
-}
-
 /* The register of a table, printed as 01 says, is this text. */
 static void vector(const uint32_t *rows, size_t count, const char *text)
 {
@@ -229,7 +218,7 @@ static void vector(const uint32_t *rows, size_t count, const char *text)
         const uint8_t *at = output + HEADER + ENTRY * i;
         fprintf(to, "%d %d", at[0], at[4]); /* numbers below 256 */
         for (int k = 0; k < 3; k++)
-            fprintf(to, " "), print_field(to, at + 8 + FIELD * k);
+            print_field(to, at + 8 + FIELD * k);
         fprintf(to, "\n");
     }
     if (!to || fclose(to) != 0)
@@ -243,13 +232,13 @@ static void vector(const uint32_t *rows, size_t count, const char *text)
 
 static void vectors(void)
 {
-    static const uint32_t one[] = {7, 0, 0}, four[] = {10, 1, 0, 11, 2, 1, 12, 2, 1, 13, 3, 2};
+    static const uint32_t one[] = {7, 0, 0};
     static const uint32_t nine[] = {1, 1, 0, 2, 1, 1, 3, 1, 1, 4, 1, 2, 5, 1, 2, 6, 1, 1, 7, 1, 2, 8, 1, 1, 9, 1, 1};
 
     group = "one row, P1";
     vector(one, 1, "7 0 2 3 -\n");
     group = "the worked example";
-    vector(four, 4, "10 1 12 33 -\n11 2 13 2 12\n12 2 22 32 12\n13 3 23 3 22\n");
+    vector(worked, 4, "10 1 12 33 -\n11 2 13 2 12\n12 2 22 32 12\n13 3 23 3 22\n");
     group = "001's table 3; its example 8.3 has the first three rows";
     vector(nine, 9,
            "1 1 112 332 -\n2 1 12 122 112\n3 1 13 222 112\n4 1 132 2 13\n5 1 212 22 13\n"

@@ -11,6 +11,7 @@
 #define _DEFAULT_SOURCE
 #include "guard.h"
 #include "plant.h"
+#include "fields.h"
 #include "tables.h"
 #include "registers.h"
 #include "damage.h"
@@ -122,13 +123,10 @@ static void must_be(enum verdict want)
 
 static void worked_example(void)
 {
-    static const uint32_t four[] = {10, 1, 0, 11, 2, 1, 12, 2, 1, 13, 3, 2};
     static const int32_t depths[] = {0, 1, 1, 2};
 
     group = "the worked example";
-    numbers = sizeof four / sizeof four[0];
-    memcpy(table, four, sizeof four);
-    build_first();
+    build_worked();
     try_all();
     for (int32_t i = 0; i < rows; i++)
         for (int32_t j = 0; j < rows; j++) {

@@ -1,5 +1,5 @@
 /* What the tests of registers and of edits share: the register of the case under way, a model of its soundness written from 01,
- * and registers of tables, with first codes or with codes drawn at random. Needs guard.h, plant.h and tables.h. */
+ * and registers of tables, with first codes or with codes drawn at random. Needs guard.h, plant.h, fields.h and tables.h. */
 
 /* ---- the register of the case under way ---- */
 
@@ -23,22 +23,6 @@ static uint8_t *field_at(int i, int k)
     return entry_at(i) + 8 + FIELD * k;
 }
 
-static inline int digit_at(const uint8_t *field, int k)
-{
-    return field[k / 4] >> (6 - 2 * (k % 4)) & 3;
-}
-
-static void print_field(const uint8_t *field)
-{
-    int n = LONGEST + 1;
-
-    while (n > 0 && digit_at(field, n - 1) == 0)
-        n--;
-    printf(n == 0 ? " -" : " ");
-    for (int k = 0; k < n; k++)
-        printf("%d", digit_at(field, k));
-}
-
 /* The first entries */
 static void print_register(void)
 {
@@ -49,7 +33,7 @@ static void print_register(void)
     for (int i = 0; i < shown; i++) {
         printf("  %u %u", get_32(entry_at(i)), get_32(entry_at(i) + 4));
         for (int k = 0; k < 3; k++)
-            print_field(field_at(i, k));
+            print_field(stdout, field_at(i, k));
         printf("\n");
     }
 }
@@ -290,6 +274,13 @@ static void build_first(void)
     len = HEADER + ENTRY * (size_t)rows;
     if (plant_label(table, numbers, reg, len) != (int64_t)len)
         fail_test("plant_label");
+}
+
+static void build_worked(void)
+{
+    numbers = sizeof worked / sizeof worked[0];
+    memcpy(table, worked, sizeof worked);
+    build_first();
 }
 
 static void make_register(size_t n, enum shape shape, int drawn)

@@ -1,8 +1,8 @@
 /* What the tests of tables, of registers and of edits share: the case under way, random tables, and a register's parts put in
- * their places. Needs guard.h. */
+ * their places. Needs guard.h, plant.h and fields.h. */
 
 /* 01's numbers, stated here once more on purpose. */
-enum { LONGEST = 127, FIELD = 32, ROW = 3, ROWS = 4096, DEEPEST = 63, HEADER = 8, ENTRY = 104 };
+enum { ROW = 3, ROWS = 4096, DEEPEST = 63, HEADER = 8, ENTRY = 104 };
 
 _Static_assert(PLANT_ROW == ROW && PLANT_ROWS == ROWS && PLANT_HEADER == HEADER && PLANT_ENTRY == ENTRY, "sizes");
 
@@ -61,6 +61,9 @@ static uint32_t next_depth(enum shape shape, uint32_t previous)
     }
 }
 
+/* 01's worked example */
+static const uint32_t worked[] = {10, 1, 0, 11, 2, 1, 12, 2, 1, 13, 3, 2};
+
 /* Row i has identity (i + 1) x factor, which no other row has if the factor is odd or small. The factors: rows in order; all
  * the same modulo 8192; the inverse of 2654435761 modulo 2^32, a usual factor to spread numbers over a hash table, so that
  * all fall in its first place, or, negative, in its last. */
@@ -92,8 +95,6 @@ static size_t whole_pages(size_t n)
 
 static void put_field(uint8_t *field, const char *code)
 {
-    static const int weight[4] = {64, 16, 4, 1};
-
     memset(field, 0, FIELD);
     for (int k = 0; code[k]; k++)
         field[k / 4] = (uint8_t)(field[k / 4] + weight[k % 4] * (code[k] - '0'));

@@ -166,16 +166,20 @@ impl Run {
     }
 }
 
+// The inverse modulo 2^32 of the factor that the proved table of identities has: numbers so far apart fall on one place of it.
+const SAME_PLACE: u32 = 244_002_641;
+
 // Which edit comes next.
 impl Run {
     fn new_identity(&self, random: &mut Random, present: &[u32]) -> u32 {
         loop {
             let other = random.pick(present);
-            let identity = match random.below(5) {
+            let identity = match random.below(6) {
                 0 if !self.taken_out.is_empty() => random.pick(&self.taken_out),
                 1 => other.wrapping_add(1),
                 2 => other ^ 1 << random.below(32),
-                3 => other.wrapping_add(8192 * random.number() % 64),
+                3 => other.wrapping_add(8192 * random.within(1, 63) as u32),
+                4 => other.wrapping_add(SAME_PLACE.wrapping_mul(random.within(1, 63) as u32)),
                 _ => random.number(),
             };
             if identity != 0 && !present.contains(&identity) {

@@ -11,7 +11,7 @@ use Rattle.digits.specs.Lists.{All}
 use Rattle.digits.specs.Order.{Digits}
 use Rattle.digits.specs.Code.{Within, Enough}
 use Rattle.digits.proofs.ListLaws.{all-map}
-use Rattle.digits.proofs.CountLaws.{no-better}
+use Rattle.digits.proofs.CountLaws.{no-better, enough}
 use Rattle.answers.specs.declared.Answer.the-variants.{Accepted}
 use Rattle.answers.specs.declared.Refusal.the-variants.{Room, CodeLength, NoCode}
 use Rattle.answers.specs.Outcome.{Outcome, Unaltered}
@@ -28,24 +28,25 @@ use Rattle.codes.proofs.TestLaws.{code?-true}
 use Rattle.codes.proofs.FieldLaws.{field-length}
 use Rattle.codes.proofs.ReadingLaws.{read-field}
 use Rattle.codes.proofs.CallLaws.{pack-written, unpack-written}
-use Rattle.trees.specs.Forest.{size}
-use Rattle.trees.specs.Labelled.{Name, Entry, codes, labelled, Sound}
+use Rattle.trees.specs.Forest.{Forest, size}
+use Rattle.trees.specs.Labelled.{Name, Entry, plain, codes, Sound}
 use Rattle.trees.proofs.LabelledLaws.{codes-labelled, plain-labelled, within-labelled}
 use Rattle.trees.proofs.SearchLaws.{both-all}
 use Rattle.registers.specs.Layout.{deepest, entryPlace}
-use Rattle.registers.specs.Questions.{countOf}
-use Rattle.registers.proofs.HoldsLaws.{lines-held, holds-sound}
+use Rattle.registers.specs.Questions.{countOf, treeIn}
+use Rattle.registers.proofs.HoldsLaws.{lines-held, sound-holds, holds-sound}
 use Rattle.registers.proofs.AnswerLaws.{tree-held}
 use Rattle.tables.specs.declared.Checked.{Checked}
 use Rattle.tables.specs.declared.Checked.the-variants.{Rows, Bad}
 use Rattle.tables.specs.Rules.{checkedOf}
+use Rattle.tables.specs.Accepted.{tableTree}
 use Rattle.tables.specs.Labelling.{labelledTree, labelAs, labelOutcome}
 use Rattle.tables.proofs.HoldsLaws.{label-holds}
 use Rattle.edits.specs.declared.Edit.{Edit}
 use Rattle.edits.proofs.HoldsLaws.{apply-keeps}
-use Rattle.demands.specs.Run.{tableTree, insertions}
+use Rattle.demands.specs.Run.{run, treeAfter, insertions}
 use Rattle.demands.specs.Answers.{AllRight}
-use Rattle.demands.specs.Demands.{Demand1, Demand2, FirstCodes, ReadBack, Demand3, bufferAfter, plainAfter}
+use Rattle.demands.specs.Demands.{Demand1, Demand2, FromTable, FromRegister, EveryTable, ReadBack, Demand3, Lengths}
 use Rattle.demands.proofs.RightLaws.{count-tree, all-right}
 use Rattle.demands.proofs.RunLaws.{State, run-state, step-stay}
 use Rattle.demands.proofs.LengthLaws.{never-long}
@@ -67,6 +68,7 @@ keeps-label : (k : Checked) (table lent : List ℕ) → Unaltered lent (labelAs 
 keeps-label (Bad refusal) table lent = λ r e. refl
 keeps-label (Rows n) table lent = keeps-unless (leb (entryPlace n) (length lent)) Room lent _ (keeps-accepted lent _ _)
 
+-- not a program that writes before it refuses
 pub demand-1 : Demand1
 unfolding packOutcome unpackOutcome betweenOutcome labelOutcome
 demand-1 = record {
@@ -95,7 +97,7 @@ label-accepted table lent n a = go (checkedOf table) refl a
         record { rows = k; checked = e; room = leb-true (entryPlace k) (length lent) (t .0) }
 
 -- what a run starts from
-start : (table lent : List ℕ) (m : ℕ) → Labelled table lent → All (Within 1 3 m) (codes (labelled (tableTree table)))
+start : (table lent : List ℕ) (m : ℕ) → Labelled table lent → All (Within 1 3 m) (codes (labelledTree table))
     → State (labelOutcome table lent .bytes) (tableTree table) m
 start table lent m l c =
     let h = label-holds table (l .rows) (l .checked) lent (l .room) in
@@ -108,22 +110,33 @@ start table lent m l c =
     }
 
 -- demand 2
-pub demand-2 : (table lent : List ℕ) (n : ℕ) → labelOutcome table lent .answer ≡ Accepted n → (edits : List Edit)
-    → Demand2 table lent edits
+after-run : (b : List ℕ) (t : Forest Name) → State b t longest → (edits : List Edit) → Demand2 b t edits
+after-run b t s edits =
+    let r = run-state edits b t longest s in
+    let c = run edits b in
+    record {
+      sound = holds-sound c (r .tree) (r .holds);
+      held = (r .tree, r .holds, r .named);
+      count = subst (λ t. countOf c ≡ size t) (r .named) (count-tree c (r .tree) (r .holds));
+      right = subst (λ t. AllRight c t) (r .named) (all-right c (r .tree) (r .holds));
+      stay = λ edit. step-stay c (treeAfter edits b t) _ r edit;
+    }
+
+-- not a program that answers of any other tree, loses an entry, a tag or a label, or counts a refused edit
+pub demand-2 : FromTable
 demand-2 table lent n a edits =
     let l = label-accepted table lent n a in
     let h = label-holds table (l .rows) (l .checked) lent (l .room) in
-    let s = run-state edits (labelOutcome table lent .bytes) (tableTree table) longest
-    (start table lent longest l (h .whole .sound .coded)) in
-    let b = bufferAfter table lent edits in
-    record {
-      sound = holds-sound b (s .tree) (s .holds);
-      count = subst (λ t. countOf b ≡ size t) (s .named) (count-tree b (s .tree) (s .holds));
-      right = subst (λ t. AllRight b t) (s .named) (all-right b (s .tree) (s .holds));
-      stay = λ edit. step-stay b (plainAfter table lent edits) _ s edit;
-    }
+    after-run (labelOutcome table lent .bytes) (tableTree table) (start table lent longest l (h .whole .sound .coded)) edits
 
-pub first-codes : (table lent : List ℕ) (n : ℕ) → labelOutcome table lent .answer ≡ Accepted n → FirstCodes table lent
+pub demand-2-on : FromRegister
+demand-2-on b y e edits =
+    let h = sound-holds b y e in
+    let s : State b (plain (h .tree)) longest = record { tree = h .tree; holds = h .holds; named = refl; bounded = h .holds .whole .sound } in
+    after-run b (plain (treeIn b)) (subst (λ f. State b (plain f) longest) (sym (tree-held b (h .tree) (h .holds))) s) edits
+
+-- not a program that labels by other thirds
+pub first-codes : EveryTable
 first-codes table lent n a =
     let l = label-accepted table lent n a in
     record {
@@ -132,6 +145,7 @@ first-codes table lent n a =
       codes-by-rule = codes-labelled (tableTree table);
     }
 
+-- not a program that cuts a field at its separator
 pub read-back : ReadBack
 unfolding packOutcome
 read-back digits field lent n a room =
@@ -146,14 +160,14 @@ read-back digits field lent n a room =
     ∙ unpack-written (fieldOf digits) lent digits (read-field digits (code?-true digits (c .0))) room
 
 -- demand 3
-pub demand-3 : (table lent : List ℕ) (n : ℕ) → labelOutcome table lent .answer ≡ Accepted n → (m : ℕ)
+pub lengths : (table lent : List ℕ) (n : ℕ) → labelOutcome table lent .answer ≡ Accepted n → (m : ℕ)
     → Enough 3 (2 * size (tableTree table)) m → (edits : List Edit) → Demand3 table lent edits m
-demand-3 table lent n a m e edits =
+lengths table lent n a m e edits =
     let l = label-accepted table lent n a in
     let w = within-labelled (tableTree table) m e in
     let k = insertions edits (labelOutcome table lent .bytes) in
     let s = run-state edits (labelOutcome table lent .bytes) (tableTree table) m (start table lent m l w) in
-    let b = bufferAfter table lent edits in
+    let b = run edits (labelOutcome table lent .bytes) in
     record {
       first = w;
       best = λ h xs q d c. no-better 1 3 (omega arith) m h xs (subst (λ (j : ℕ). Enough 3 j m) (sym q) e) c d;
@@ -165,3 +179,9 @@ demand-3 table lent n a m e edits =
       fits = λ h edit. never-long b (m + k) h
           (subst (Sound (Within 1 3 (m + k)) (suc deepest) [] [] []) (sym (tree-held b (s .tree) (s .holds))) (s .bounded)) edit;
     }
+
+-- not a program that cuts in halves, lengthens a code by two digits at a step, or gives 8 while there is room
+pub demand-3 : Lengths
+demand-3 table lent n a =
+    let e = enough 3 (omega arith) (2 * size (tableTree table)) in
+    (e .0, e .1, λ edits. lengths table lent n a (e .0) (e .1) edits)

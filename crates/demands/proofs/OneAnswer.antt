@@ -33,7 +33,6 @@ one-answer = record {
   apply = λ lent edit. both itself _;
   label-sound = λ label. one _;
   register-sound = λ register. one _;
-  table-check = λ table. one _;
   plant-pack = λ digits lent. both signedOf (packOutcome digits lent);
   plant-unpack = λ field lent. both signedOf (unpackOutcome field lent);
   plant-between = λ left right lent. both signedOf (betweenOutcome left right lent);

@@ -27,9 +27,8 @@ use Rattle.registers.specs.declared.Found.the-variants.{At}
 use Rattle.registers.specs.Holds.{identities, Holds}
 use Rattle.registers.specs.Sound.{labelBytes, lineAt}
 use Rattle.registers.specs.Questions.{countOf, linesOf, registerSound?, foundFrom, foundIn, depthIn}
-use Rattle.registers.proofs.RowLaws.{lines-length}
 use Rattle.registers.proofs.QuestionLaws.{line-at, place-found, depth-found, distance-found}
-use Rattle.registers.proofs.HoldsLaws.{lines-held, holds-sound}
+use Rattle.registers.proofs.HoldsLaws.{lines-held, count-size, holds-sound}
 use Rattle.registers.proofs.AnswerLaws.{labelIn, asked-lines, depth-held, found-at}
 use Rattle.demands.specs.Answers.{Says, rightly-yes, rightly-no, SaysOrder, minus-one, zero-one, plus-one, entry, AllRight}
 
@@ -97,7 +96,7 @@ module _ (b : List ℕ) (f : Forest (Entry Name)) (h : Holds b f) where
   sound = holds-sound b f h
 
   pub count-tree : countOf b ≡ size t
-  count-tree = sym (lines-length b 0 (countOf b)) ∙ ap length (lines-held b f h) ∙ length-preorder f ∙ sym (size-image nameOf f)
+  count-tree = count-size b f h ∙ sym (size-image nameOf f)
 
   line : (i : ℕ) → i < size t → lineAt b i ≡ getD (preorder f) i nothing
   line i k =

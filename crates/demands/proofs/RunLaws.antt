@@ -30,12 +30,12 @@ use Rattle.registers.specs.Questions.{countOf, foundFrom, foundIn}
 use Rattle.registers.proofs.SoundLaws.{has-place}
 use Rattle.registers.proofs.BytesLaws.{label-parts}
 use Rattle.registers.proofs.QuestionLaws.{sized→, sized-entries, parts-of, labels-sound, found-inside}
-use Rattle.registers.proofs.HoldsLaws.{lines-held, holds-sound}
+use Rattle.registers.proofs.HoldsLaws.{lines-held, count-size, holds-sound}
 use Rattle.edits.specs.declared.Edit.{Edit}
 use Rattle.edits.specs.declared.Edit.the-variants.{Insert, Delete}
 use Rattle.edits.specs.declared.Place.{Place}
 use Rattle.edits.specs.Edits.{whereOf, targetOf, applyOutcome}
-use Rattle.edits.proofs.HoldsLaws.{count-size, insert-accepted, delete-accepted, apply-keeps}
+use Rattle.edits.proofs.HoldsLaws.{insert-accepted, delete-accepted, apply-keeps}
 use Rattle.demands.specs.Run.{numberIn, changedAt, changed, answered, run, treeAfter, insertion, insertions}
 use Rattle.demands.specs.Demands.{LabelsStay}
 use Rattle.demands.proofs.RightLaws.{nameOf, count-tree, name-at, present}

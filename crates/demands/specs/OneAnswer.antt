@@ -10,7 +10,6 @@ use Rattle.codes.specs.Calls.{packOutcome, unpackOutcome, betweenOutcome}
 use Rattle.labels.specs.Label.{sound?}
 use Rattle.labels.specs.Questions.{orderAnswer, aboveAnswer, parentAnswer, siblingAnswer}
 use Rattle.registers.specs.Questions.{registerSound?, placeAnswer, depthAnswer, distanceAnswer}
-use Rattle.tables.specs.Rules.{checkedOf}
 use Rattle.tables.specs.Labelling.{labelOutcome}
 use Rattle.edits.specs.declared.Place.the-variants.{FirstChildOf, LastChildOf, Before, After}
 use Rattle.edits.specs.declared.Edit.{Edit}
@@ -45,7 +44,6 @@ pub record OneAnswer : Type 0 where
   pub apply : (lent : List ℕ) (edit : Edit) → OneWith itself (applyOutcome lent edit)
   pub label-sound : (label : List ℕ) → One (sound? label)
   pub register-sound : (register : List ℕ) → One (registerSound? register)
-  pub table-check : (table : List ℕ) → One (checkedOf table)
   pub plant-pack : (digits lent : List ℕ) → OneWith signedOf (packOutcome digits lent)
   pub plant-unpack : (field lent : List ℕ) → OneWith signedOf (unpackOutcome field lent)
   pub plant-between : (left right lent : List ℕ) → OneWith signedOf (betweenOutcome left right lent)

@@ -6,21 +6,14 @@ use Prim.Native.Nat.{ℕ, zero, suc}
 use Rattle.answers.specs.declared.Answer.{Answer}
 use Rattle.answers.specs.declared.Answer.the-variants.{Accepted, Refused}
 use Rattle.trees.specs.Forest.{Forest, preorder}
-use Rattle.trees.specs.Table.{forest}
 use Rattle.trees.specs.Labelled.{Name}
 use Rattle.trees.specs.Edit.{inserted, without}
 use Rattle.registers.specs.declared.Found.{Found}
 use Rattle.registers.specs.declared.Found.the-variants.{At, Nothing}
 use Rattle.registers.specs.Questions.{foundFrom}
-use Rattle.tables.specs.Table.{rowsOf}
-use Rattle.tables.specs.Accepted.{named}
 use Rattle.edits.specs.declared.Edit.{Edit}
 use Rattle.edits.specs.declared.Edit.the-variants.{Insert, Delete}
 use Rattle.edits.specs.Edits.{whereOf, targetOf, applyOutcome}
-
--- the tree that a table's depths describe
-abbrev pub tableTree : List ℕ → Forest Name
-tableTree table = forest (named (rowsOf table))
 
 -- the number in document order of the entry with an identity
 abbrev pub numberIn : ℕ → Forest Name → Found
@@ -55,7 +48,7 @@ treeAfter [] bytes t = t
 treeAfter (edit ∷ edits) bytes t =
     treeAfter edits (applyOutcome bytes edit .bytes) (answered (applyOutcome bytes edit .answer) edit t)
 
--- 1 for an accepted insertion
+-- one more than k for an accepted insertion
 abbrev pub insertion : Answer → Edit → ℕ → ℕ
 insertion (Accepted place) (Insert p identity tag) k = suc k
 insertion (Accepted place) (Delete target) k = k

@@ -6,8 +6,8 @@ use Prim.Native.Nat.{ℕ}
 use lib.ListN.{take, replicate}
 use Rattle.digits.specs.Order.{Digits, below?}
 use Rattle.digits.specs.Between.{between}
-use Rattle.digits.specs.Thirds.{thirds}
 use Rattle.codes.specs.Field.{fieldOf}
+use Rattle.trees.specs.Labelled.{codes}
 use Rattle.trees.specs.Edit.{Where, firstChild, lastChild, after, spotOf}
 use Rattle.trees.specs.Neighbours.{newEntry}
 use Rattle.tables.specs.Labelling.{labelledTree}
@@ -45,7 +45,7 @@ putIn number w i start end =
 
 unfoldable pub worked : List Case
 worked =
-    case 1 (thirds [] [] 3) ((2 ∷ []) ∷ (3 ∷ []) ∷ [])
+    case 1 (codes (labelledTree (10 ∷ 1 ∷ 0 ∷ []))) ((2 ∷ []) ∷ (3 ∷ []) ∷ [])
     ∷ step 2 (2 ∷ []) (3 ∷ []) (2 ∷ 2 ∷ [])
     ∷ step 3 [] [] (2 ∷ [])
     ∷ step 4 [] (2 ∷ []) (1 ∷ 2 ∷ [])

@@ -3,16 +3,16 @@
 use mathlib.Core.Path.{_≡_}
 use mathlib.Core.Logic.{inl, inr, _≢_}
 use mathlib.Core.List.{List, [], _∷_, map}
-use Prim.Native.Nat.{ℕ, zero, suc, _+_, _-_, _*_, _^_, _≤_, _<_}
+use Prim.Native.Nat.{ℕ, zero, suc, _+_, _-_, _*_, _^_, _≤_, _<_, compare, Ordering, Ordering·lt, Ordering·eq, Ordering·gt}
 use native.Mathlib.Omega.{arith}
-use native.Mathlib.Nat.{one-le-pow, mul-le-mul-right, pow-succ'}
+use native.Mathlib.Nat.{one-le-pow, mul-le-mul-right, pow-le-pow-right, pow-succ'}
 use lib.Arith.{digits-lt}
 use lib.ListN.{length, length-map}
 use Rattle.digits.specs.Lists.{All, Distinct}
 use Rattle.digits.specs.Order.{Digits, Below}
 use Rattle.digits.specs.Code.{Formed, Side, Within, Enough}
 use Rattle.digits.proofs.ListLaws.{pigeons}
-use Rattle.digits.proofs.OrderLaws.{below-nil, below-three, Three, lower, equal, upper}
+use Rattle.digits.proofs.OrderLaws.{Compared, lt, eq, gt, compared, below-nil, below-three, Three, lower, equal, upper}
 use Rattle.digits.proofs.CodeLaws.{formed-first, formed-rest, formed-side}
 
 module _ (least symbols : ℕ) (some : 0 < symbols) where
@@ -90,3 +90,26 @@ module _ (least symbols : ℕ) (some : 0 < symbols) where
   -- demand 3: so many different codes cannot all have fewer digits than the least that leaves room for them
   pub no-better : (m h : ℕ) (xs : List Digits) → Enough symbols (length xs) m → All (Within least symbols h) xs → Distinct xs → m ≤ h
   no-better m h xs e a d = e .least h (codes-bound h xs a d)
+
+-- there is such a least number of digits, for two symbols and more
+module _ (symbols : ℕ) (two : 2 ≤ symbols) where
+  -- one number more: the same digits, or one more where the power is just reached
+  next : (n m : ℕ) → Enough symbols n m → (o : Ordering) → Compared (suc n) (symbols ^ m) o → (k : ℕ) × Enough symbols (suc n) k
+  next n m e Ordering·lt (lt h) = (m, record { above = h; least = λ k g. e .least k (omega arith) })
+  next n m e Ordering·gt (gt h) = absurd (omega (arith, e .above))
+  next n m e Ordering·eq (eq h) =
+      let p : 2 * symbols ^ m ≤ symbols * symbols ^ m = mul-le-mul-right {m = 2} {n = symbols} (symbols ^ m) two in
+      let q : 1 ≤ symbols ^ m = one-le-pow m symbols (omega arith) in (
+        suc m,
+        record {
+          above = rw (pow-succ' symbols m) (omega arith);
+          least = λ k g. past m k (λ l. omega (arith, pow-le-pow-right {n = symbols} (omega arith) {i = k} {j = m} l));
+        },
+      )
+    where
+      past : (m k : ℕ) → (k ≤ m → ⊥) → suc m ≤ k
+      past m k f = omega arith
+
+  pub enough : (n : ℕ) → (m : ℕ) × Enough symbols n m
+  enough zero = (0, record { above = one-le-pow 0 symbols (omega arith); least = λ k g. omega arith })
+  enough (suc n) = let e = enough n in next n (e .0) (e .1) (compare (suc n) (symbols ^ e .0)) (compared (suc n) (symbols ^ e .0))

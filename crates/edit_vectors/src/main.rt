@@ -14,6 +14,8 @@ use registers::HEADER;
 
 // What a lent buffer holds before a call: 5a.
 const FILL: u8 = 90;
+// 01's worked rows.
+const WORKED: [u32; 12] = [10, 1, 0, 11, 2, 1, 12, 2, 1, 13, 3, 2];
 
 // Where a register grows: each new entry is the root's first child, the first child of the last one, or after the last one.
 enum Way {
@@ -79,9 +81,9 @@ fn edited(name: &[u8], edit: Edit) {
     lines(&register);
 }
 
-// 01's worked rows.
+// 01's worked register.
 fn worked(register: &mut [u8]) {
-    tables::label(&[10, 1, 0, 11, 2, 1, 12, 2, 1, 13, 3, 2], register);
+    tables::label(&WORKED, register);
 }
 
 // Edits a register, and prints the answer on a line.

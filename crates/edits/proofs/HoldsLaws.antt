@@ -23,19 +23,16 @@ use Rattle.trees.specs.Labelled.{Name, Entry, Sound}
 use Rattle.trees.specs.Edit.{Where, Spot, leaf, put, ahead, behind, levelAt, spotOf, leaf?, without}
 use Rattle.trees.specs.Neighbours.{newEntry, insertedEntry}
 use Rattle.trees.proofs.ListLaws.{all-left, all-right, all-append, distinct-put, distinct-cut, map-append}
-use Rattle.trees.proofs.ForestLaws.{length-preorder}
 use Rattle.trees.proofs.EditLaws.{order-spot, order-put, size-put, taken, rooted-inserted, rooted-without}
 use Rattle.trees.proofs.NeighbourLaws.{inserted-sound, sound-cut}
 use Rattle.registers.specs.declared.Found.{Found}
 use Rattle.registers.specs.declared.Found.the-variants.{At, Nothing}
-use Rattle.registers.specs.Layout.{deepest, entryPlace}
+use Rattle.registers.specs.Layout.{deepest}
 use Rattle.registers.specs.Entries.{registerBytes}
 use Rattle.registers.specs.Holds.{identities, Whole, Holds}
-use Rattle.registers.specs.Questions.{countOf, linesOf, registerSound?, foundIn, treeIn}
-use Rattle.registers.proofs.RowLaws.{lines-length}
-use Rattle.registers.proofs.EntryLaws.{register-length}
+use Rattle.registers.specs.Questions.{linesOf, registerSound?, foundIn, treeIn}
 use Rattle.registers.proofs.QuestionLaws.{found-inside}
-use Rattle.registers.proofs.HoldsLaws.{lines-held, holds-sound}
+use Rattle.registers.proofs.HoldsLaws.{lines-held, whole-bytes, count-is, count-size, holds-sound}
 use Rattle.registers.proofs.AnswerLaws.{tree-held}
 use Rattle.edits.specs.Splice.{insertedBytes, deletedBytes}
 use Rattle.edits.specs.declared.Edit.{Edit}
@@ -55,15 +52,6 @@ with-identity us vs x = map-append identity us (x ∷ vs)
 
 -- what a register that holds a tree says of it
 module _ (b : List ℕ) (f : Forest (Entry Name)) (h : Holds b f) where
-  pub count-size : countOf b ≡ size f
-  count-size = sym (lines-length b 0 (countOf b)) ∙ ap length (lines-held b f h) ∙ length-preorder f
-
-  whole-part : take (entryPlace (length (preorder f))) b ≡ registerBytes (preorder f)
-  whole-part = ap (λ (n : ℕ). take n b) (sym (register-length (preorder f))) ∙ h .bytes
-
-  count-lines : countOf b ≡ length (preorder f)
-  count-lines = count-size ∙ sym (length-preorder f)
-
   -- 01, Edit: an entry put in with the codes between its neighbours
   module _ (w : Where) (i : ℕ) (m : Name) (k : i < size f) (p : 0 < levelAt f (spotOf w i f))
       (new? : fresh? (m .identity) (identities (preorder f)) ≡ true) (deep : levelAt f (spotOf w i f) ≤ deepest) (room : room? b ≡ true)
@@ -91,7 +79,7 @@ module _ (b : List ℕ) (f : Forest (Entry Name)) (h : Holds b f) where
         let r = subst (All (λ y. y ≢ 0)) old-identities (h .whole .real) in
         record {
           rooted = rooted-inserted w i (leaf x) f (h .whole .rooted) k p;
-          most = omega (arith, size-put (leaf x) f q, count-size, room-for b room .0);
+          most = omega (arith, size-put (leaf x) f q, count-size b f h, room-for b room .0);
           real =
               subst (All (λ y. y ≢ 0)) (sym inserted-identities)
               (all-join (λ y. y ≢ 0) us vs (m .identity) (all-left (λ y. y ≢ 0) us vs r) (n .0) (all-right (λ y. y ≢ 0) us vs r));
@@ -108,7 +96,7 @@ module _ (b : List ℕ) (f : Forest (Entry Name)) (h : Holds b f) where
       whole = inserted-whole;
       bytes =
           subst (λ us. take (length (registerBytes us)) (insertedBytes b (length (ahead f q)) x) ≡ registerBytes us) (sym order)
-          (inserted-holds b (preorder f) (ahead f q) (behind f q) x count-lines whole-part (order-spot f q));
+          (inserted-holds b (preorder f) (ahead f q) (behind f q) x (count-is b f h) (whole-bytes b f h) (order-spot f q));
     }
 
   -- 01, Edit: a leaf that is not the root taken out
@@ -138,7 +126,7 @@ module _ (b : List ℕ) (f : Forest (Entry Name)) (h : Holds b f) where
         bytes =
             subst (λ ws. take (length (registerBytes ws)) (deletedBytes b i) ≡ registerBytes ws) (sym (order-spot g q))
             (subst (λ (j : ℕ). take (length (registerBytes (us ++ vs))) (deletedBytes b j) ≡ registerBytes (us ++ vs)) (t .place)
-            (deleted-holds b (preorder f) us vs u count-lines whole-part o));
+            (deleted-holds b (preorder f) us vs u (count-is b f h) (whole-bytes b f h) o));
       })
 
 -- an accepted insertion: its target is found, and the buffer holds the tree with the new leaf, whose place is answered

@@ -13,7 +13,7 @@ ghost use Rattle.registers.specs.Layout.{mostEntries};
 ghost use Rattle.registers.specs.Entries.{codeAt};
 ghost use Rattle.registers.specs.Holds.{identities};
 ghost use Rattle.registers.specs.Sound.{CodeAt};
-ghost use Rattle.registers.specs.Questions.{countOf, linesOf, sized?, registerSound?, treeOf, treeIn};
+ghost use Rattle.registers.specs.Questions.{countOf, linesOf, sized?, registerSound?, treeIn};
 ghost use Rattle.edits.specs.Splice.{insertedBytes, deletedBytes};
 ghost use Rattle.edits.specs.Search.{ownPlace, parentFrom};
 ghost use Rattle.edits.specs.Edits.{whereOf, targetOf, parented?, room?, spotIn, putOutcome, insertAt, insertOutcome, deleteAt, deleteOutcome, applyOutcome};

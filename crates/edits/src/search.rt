@@ -1,4 +1,4 @@
-// Where an insertion goes: its neighbours along the tour, and how many entries start before it.
+// Where an insertion goes: its neighbours along the tour, and how many entries start before it; and whether an entry has children.
 ghost use mathlib.Core.Path.{_≡_};
 ghost use mathlib.Core.Bool.{true};
 ghost use Prim.Native.Nat.{_≤_, _<_};
@@ -7,7 +7,7 @@ ghost use Rattle.trees.specs.Search.{toward?, closer as closerOf, outermost, ne
 ghost use Rattle.registers.specs.Entries.{codeAt};
 ghost use Rattle.edits.specs.Search.{outerPlace};
 ghost use Rattle.registers.specs.Sound.{lineAt, CodeAt};
-ghost use Rattle.registers.specs.Questions.{countOf, linesOf, registerSound?, treeOf, treeIn};
+ghost use Rattle.registers.specs.Questions.{countOf, linesOf, registerSound?, treeIn};
 use registers::end_place;
 use registers::fields_below;
 use registers::start_place;

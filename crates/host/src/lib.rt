@@ -1,5 +1,5 @@
 // The calls of `codes`, `labels`, `registers`, `tables` and `edits` for a host program in C, as include/plant.h declares them.
-// Each turns an answer into a number.
+// Where a call answers an enum, it is turned into a number.
 ghost use mathlib.Core.Path.{_≡_};
 ghost use Rattle.answers.specs.Signed.{signedOf, signedRowOf};
 ghost use Rattle.codes.specs.Calls.{packOutcome, unpackOutcome, betweenOutcome};

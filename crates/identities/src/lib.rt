@@ -17,7 +17,7 @@ enum Slot {
 }
 
 // An identity is entered now, or it was before, or there was no place for it.
-pub enum Entered {
+enum Entered {
     New,
     Known,
     NoPlace,
@@ -52,7 +52,7 @@ fn place_of(places: &[u32], identity: u32) -> Slot
 }
 
 // Enters an identity that is not 0.
-pub fn enter(places: &mut [u32], identity: u32) -> Entered
+fn enter(places: &mut [u32], identity: u32) -> Entered
     requires size { ⌜ length (now places) ≡ placeCount ⌝ }
     requires some { ⌜ (identity ≡ 0 → ⊥) ⌝ }
     ensures entered { λ r. ⌜ Entering (now (places .entry)) identity r (now (places .exit)) ⌝ }

@@ -2,32 +2,11 @@
 use mathlib.Core.Path.{_≡_}
 use mathlib.Core.List.{List, [], _∷_}
 use Prim.Native.Nat.{ℕ, suc, _+_, _*_, _/_, _%_, _≤_, _<_}
-use native.Mathlib.Nat.{add-zero}
 use native.Mathlib.Numerals.{add-one, add-two, add-three}
 use native.Mathlib.Omega.{arith}
 use lib.ListN.{length, take, drop, getD}
 use lib.Seq.{drop-cons}
-use Rattle.numbers.specs.Bytes.{put, le4, numberAt}
-use Rattle.numbers.proofs.PutLaws.{put-before, put-in, put-after}
-
--- the number that was put is the number that is read
-pub number-put : (xs : List ℕ) (at x : ℕ) → at + 4 ≤ length xs → numberAt (put xs at (le4 x)) at ≡ x
-number-put xs at x fits =
-    let p = put-in xs at (le4 x) (omega arith) in
-    omega (arith, rw add-zero at (p 0 (omega arith)), p 1 (omega arith), p 2 (omega arith), p 3 (omega arith))
-
--- a number clear of the run stays
-pub number-before : (xs : List ℕ) (at : ℕ) (vs : List ℕ) (i : ℕ) → at ≤ length xs → i + 4 ≤ at
-    → numberAt (put xs at vs) i ≡ numberAt xs i
-number-before xs at vs i room h =
-    let p = put-before xs at vs room in
-    rw (p i (omega arith), p (i + 1) (omega arith), p (i + 2) (omega arith), p (i + 3) (omega arith))
-
-pub number-after : (xs : List ℕ) (at : ℕ) (vs : List ℕ) (i : ℕ) → at ≤ length xs → at + length vs ≤ i
-    → numberAt (put xs at vs) i ≡ numberAt xs i
-number-after xs at vs i room h =
-    let p = put-after xs at vs room in
-    rw (p i (omega arith), p (i + 1) (omega arith), p (i + 2) (omega arith), p (i + 3) (omega arith))
+use Rattle.numbers.specs.Bytes.{le4, numberAt}
 
 -- the bytes of a number that four bytes make are these bytes
 le4-bytes : (a b d e : ℕ) → a < 256 → b < 256 → d < 256 → e < 256

@@ -33,7 +33,7 @@ pub fn refused(refusal: Refusal) {
     text(&out[..n]);
 }
 
-// Prints that what was read is no text of a table and no register of a size that is taken.
+// Prints that what was read is no text of a table or no register of a size that is taken.
 pub fn unreadable() {
     text(b"unreadable\n");
 }

@@ -13,7 +13,7 @@ use Rattle.codes.specs.Code.{IsCode}
 use Rattle.identities.specs.Rows.{allNew?}
 use Rattle.identities.proofs.RowLaws.{all-new→, →all-new}
 use Rattle.numbers.specs.Bytes.{numberAt}
-use Rattle.trees.specs.Forest.{Forest, nil, node, preorder, Rooted}
+use Rattle.trees.specs.Forest.{Forest, nil, node, size, preorder, Rooted}
 use Rattle.trees.specs.Labelled.{Name, Entry, Tree}
 use Rattle.trees.proofs.ForestLaws.{length-preorder}
 use Rattle.trees.proofs.UniqueLaws.{one-tree}
@@ -71,14 +71,17 @@ module _ (b : List ℕ) (f : Forest (Entry Name)) (h : Holds b f) where
   abbrev n : ℕ
   n = length us
 
-  whole-bytes : take (entryPlace n) (drop 0 b) ≡ registerBytes us
+  pub whole-bytes : take (entryPlace n) (drop 0 b) ≡ registerBytes us
   whole-bytes = ap (λ (k : ℕ). take k b) (sym (register-length us)) ∙ h .bytes
 
   room : entryPlace n ≤ length b
   room = omega (arith, sym (length-take (entryPlace n) b) ∙ ap length whole-bytes ∙ register-length us)
 
-  count-is : countOf b ≡ n
+  pub count-is : countOf b ≡ n
   count-is = number-of b (registerBytes us) 0 (entryPlace n) 0 whole-bytes (omega arith) ∙ omega arith
+
+  pub count-size : countOf b ≡ size f
+  count-size = count-is ∙ length-preorder f
 
   zero-is : numberAt b zeroAt ≡ 0
   zero-is = number-of b (registerBytes us) 0 (entryPlace n) 4 whole-bytes (omega arith) ∙ omega arith

@@ -11,14 +11,14 @@ use Rattle.digits.specs.Lists.{All, Distinct}
 use Rattle.answers.specs.declared.Refusal.{Refusal}
 use Rattle.identities.specs.Rows.{fresh?}
 use Rattle.identities.proofs.RowLaws.{New, new, fresh-right, others, fewer, behind, some, real}
-use Rattle.trees.specs.Table.{Later, Follow, rows, forest}
+use Rattle.trees.specs.Table.{Later, Follow, rows}
 use Rattle.trees.proofs.TableLaws.{ruled-rows}
 use Rattle.registers.specs.Layout.{deepest}
 use Rattle.tables.specs.declared.Checked.{Checked}
 use Rattle.tables.specs.declared.Checked.the-variants.{Rows, Bad}
 use Rattle.tables.specs.Table.{mostRows, rowSize, Row, rowsOf}
 use Rattle.tables.specs.Rules.{size?, depth?, rowsFrom, rowsChecked, checkedOf}
-use Rattle.tables.specs.Accepted.{named, identities, Accepted}
+use Rattle.tables.specs.Accepted.{named, identities, Accepted, tableTree}
 use Rattle.tables.proofs.RowLaws.{rows-length}
 use Rattle.tables.proofs.RuleLaws.{size-right}
 
@@ -156,5 +156,5 @@ none-refused t z a =
         (right-rows 1 0 (r .identity ∷ []) rs h ∙ ap Rows (omega arith))
 
 -- an accepted table has one tree, and its rows come back
-pub accepted-tree : (t : List ℕ) (n : ℕ) → checkedOf t ≡ Rows n → rows 0 (forest (named (rowsOf t))) ≡ named (rowsOf t)
+pub accepted-tree : (t : List ℕ) (n : ℕ) → checkedOf t ≡ Rows n → rows 0 (tableTree t) ≡ named (rowsOf t)
 accepted-tree t n e = ruled-rows deepest (named (rowsOf t)) (accepted t n e .ruled)

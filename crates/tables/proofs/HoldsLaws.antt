@@ -26,7 +26,7 @@ use Rattle.registers.proofs.HoldsLaws.{holds-sound}
 use Rattle.tables.specs.declared.Checked.the-variants.{Rows}
 use Rattle.tables.specs.Table.{rowsOf}
 use Rattle.tables.specs.Rules.{checkedOf}
-use Rattle.tables.specs.Accepted.{named, identities}
+use Rattle.tables.specs.Accepted.{named, identities, tableTree}
 use Rattle.tables.specs.Labelling.{labelledTree, labelOutcome}
 use Rattle.tables.proofs.RowLaws.{rows-length}
 use Rattle.tables.proofs.AcceptedLaws.{accepted, accepted-tree}
@@ -47,7 +47,7 @@ module _ (t : List ℕ) (n : ℕ) (e : checkedOf t ≡ Rows n) where
   -- the identities of the register are those of the rows
   same-identities : identitiesOf (preorder (labelledTree t)) ≡ identities (rowsOf t)
   same-identities =
-      let f = forest (named (rowsOf t)) in
+      let f = tableTree t in
       let us = preorder (labelled f) in
       let r : map (λ p. p .0) (named (rowsOf t)) ≡ preorder f = ap (map (λ p. p .0)) (sym (accepted-tree t n e)) ∙ preorder-rows 0 f in
       let q : map names us ≡ preorder f = sym (preorder-image names (labelled f)) ∙ ap preorder (plain-labelled f) in
@@ -61,10 +61,10 @@ module _ (t : List ℕ) (n : ℕ) (e : checkedOf t ≡ Rows n) where
       let m = count-most t n e in
       record {
         rooted = some-root (named (rowsOf t)) (rw (named-length t) (omega (arith, rows-length t, a .some))) (a .ruled);
-        most = omega (arith, size-labelled (forest (named (rowsOf t))));
+        most = omega (arith, size-labelled (tableTree t));
         real = subst (All (λ x. x ≢ 0)) (sym same-identities) (a .real);
         distinct = subst Distinct (sym same-identities) (a .distinct);
-        sound = labelled-sound IsCode (suc deepest) (forest (named (rowsOf t))) (ruled-height deepest (named (rowsOf t)) (a .ruled))
+        sound = labelled-sound IsCode (suc deepest) (tableTree t) (ruled-height deepest (named (rowsOf t)) (a .ruled))
             (tree-codes t n e);
       }
 
@@ -83,8 +83,8 @@ module _ (t : List ℕ) (n : ℕ) (e : checkedOf t ≡ Rows n) where
 
   -- demand 3: .. and its codes have at most m digits, m least such that 3 ^ m > 2N
   pub label-within : (m : ℕ) → Enough 3 (2 * n) m → All (Within 1 3 m) (codes (labelledTree t))
-  label-within m k = within-labelled (forest (named (rowsOf t))) m (subst (λ j. Enough 3 (2 * j) m) (sym (tree-size t n e)) k)
+  label-within m k = within-labelled (tableTree t) m (subst (λ j. Enough 3 (2 * j) m) (sym (tree-size t n e)) k)
 
 -- .. and its plain tree is the one whose rows are the table's
-pub label-plain : (t : List ℕ) → plain (labelledTree t) ≡ forest (named (rowsOf t))
-label-plain t = plain-labelled (forest (named (rowsOf t)))
+pub label-plain : (t : List ℕ) → plain (labelledTree t) ≡ tableTree t
+label-plain t = plain-labelled (tableTree t)

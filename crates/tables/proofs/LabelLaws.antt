@@ -21,7 +21,7 @@ use Rattle.numbers.specs.Bytes.{put, le4}
 use Rattle.numbers.proofs.PutLaws.{put-grows}
 use Rattle.codes.specs.Code.{IsCode}
 use Rattle.trees.specs.Forest.{size, preorder}
-use Rattle.trees.specs.Table.{rows, forest}
+use Rattle.trees.specs.Table.{rows}
 use Rattle.trees.specs.Labelled.{Name, plain, codes, labelled}
 use Rattle.trees.proofs.TableLaws.{length-rows, ruled-bounded}
 use Rattle.trees.proofs.ForestLaws.{length-preorder}
@@ -32,7 +32,7 @@ use Rattle.tables.specs.declared.Checked.the-variants.{Rows, Bad}
 use Rattle.tables.specs.Table.{mostRows, rowsOf}
 use Rattle.tables.specs.Rules.{checkedOf}
 use Rattle.tables.specs.Rows.{depthOf}
-use Rattle.tables.specs.Accepted.{named}
+use Rattle.tables.specs.Accepted.{named, tableTree}
 use Rattle.tables.specs.Walk.{Walk, rowCount, walked, Ready}
 use Rattle.tables.specs.Labelling.{labelledTree, labelOutcome}
 use Rattle.tables.proofs.RowLaws.{rows-length}
@@ -91,11 +91,11 @@ module _ (t : List ℕ) (n : ℕ) (e : checkedOf t ≡ Rows n) where
   pub start-codes : (x y : Digits) → x ≡ [] → y ≡ [] → All IsCode (thirds x y (2 * n + 1))
   start-codes x y f g = rw (f, g) nine
 
-  pub tree-size : size (forest (named (rowsOf t))) ≡ n
-  tree-size = sym (length-rows 0 (forest (named (rowsOf t)))) ∙ ap length (accepted-tree t n e) ∙ named-length t ∙ row-count
+  pub tree-size : size (tableTree t) ≡ n
+  tree-size = sym (length-rows 0 (tableTree t)) ∙ ap length (accepted-tree t n e) ∙ named-length t ∙ row-count
 
   first-codes : codes (labelledTree t) ≡ thirds [] [] (2 * n + 1)
-  first-codes = codes-labelled (forest (named (rowsOf t))) ∙ ap (λ (j : ℕ). thirds [] [] (2 * j + 1)) tree-size
+  first-codes = codes-labelled (tableTree t) ∙ ap (λ (j : ℕ). thirds [] [] (2 * j + 1)) tree-size
 
   pub tree-codes : All IsCode (codes (labelledTree t))
   tree-codes = subst (All IsCode) (sym first-codes) nine
@@ -105,7 +105,7 @@ module _ (t : List ℕ) (n : ℕ) (e : checkedOf t ≡ Rows n) where
       → walked t (thirds [] [] (2 * n + 1)) (atStart (put b 0 (le4 n ++ le4 0))) .bytes ≡ put b 0
       (registerBytes (preorder (labelledTree t)))
   walk-bytes b room =
-      let f = forest (named (rowsOf t)) in
+      let f = tableTree t in
       let h : List ℕ = le4 n ++ le4 0 in
       let r : rows 0 f ≡ named (rowsOf t) = accepted-tree t n e in
       let l : length (preorder (labelled f)) ≡ n = length-preorder (labelled f) ∙ size-labelled f ∙ tree-size in

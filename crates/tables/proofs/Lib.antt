@@ -1,4 +1,4 @@
--- Laws of a table's rows, of its rules and of the identity table, in reading order. Assumes nothing.
+-- Laws of a table's rows, of its rules and of the labelling it leaves, in reading order. Assumes nothing.
 pub mod RowLaws
 pub mod RuleLaws
 pub mod AcceptedLaws

@@ -1,12 +1,12 @@
 -- Laws of a table's rows: how many there are, each by its number, and the rows from one on. Assumes nothing.
-use mathlib.Core.Path.{_≡_, refl, sym, ap, _∙_}
+use mathlib.Core.Path.{_≡_, refl, ap, _∙_}
 use mathlib.Core.List.{List, [], _∷_}
 use Prim.Native.Nat.{ℕ, zero, suc, _+_, _*_, _-_, _/_, _≤_}
 use native.Mathlib.Nat.{add-zero}
 use native.Mathlib.Omega.{arith}
 use lib.ListN.{length, drop, getD, length-drop, drop-of-length-le}
 use lib.Seq.{drop-drop, getD-drop}
-use Rattle.tables.specs.Table.{rowSize, Row, rowsOf}
+use Rattle.tables.specs.Table.{rowSize, rowsOf}
 use Rattle.tables.specs.Rows.{identityOf, tagOf, depthOf, rowAt}
 
 -- one row for each three numbers
@@ -49,12 +49,6 @@ rows-next t i h =
     let e : rowSize * i + rowSize ≡ rowSize * suc i = omega arith in
     let r : drop rowSize s ≡ drop (rowSize * suc i) t = drop-drop rowSize (rowSize * i) t ∙ ap (λ (k : ℕ). drop k t) e in
     cc (rows-drop i t, rows-drop (suc i) t)
-
--- and by its number
-pub row-at : (t : List ℕ) (i : ℕ) (r : Row) → rowSize * i + rowSize ≤ length t → getD (rowsOf t) i r ≡ rowAt t i
-row-at t i r h =
-    ap (λ (k : ℕ). getD (rowsOf t) k r) (sym (add-zero i)) ∙ sym (getD-drop i (rowsOf t) 0 r)
-    ∙ ap (λ (l : List Row). getD l 0 r) (rows-next t i h)
 
 -- behind the last row there is none
 pub rows-end : (t : List ℕ) (n : ℕ) → length t ≡ rowSize * n → drop n (rowsOf t) ≡ []

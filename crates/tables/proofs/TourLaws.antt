@@ -39,7 +39,7 @@ nameOf t i = record { identity = identityOf t i; tag = tagOf t i }
 abbrev pub naming : Row → Name × ℕ
 naming r = (record { identity = r .identity; tag = r .tag }, r .depth)
 
--- row i ps a name with its depth, and the rows behind it
+-- row i as a name with its depth, and the rows behind it
 pub named-next : (t : List ℕ) (i : ℕ) → i < rowCount t
     → drop i (named (rowsOf t)) ≡ (nameOf t i, depthOf t i) ∷ drop (suc i) (named (rowsOf t))
 named-next t i h =
@@ -59,7 +59,7 @@ abbrev Higher : ℕ → List (Name × ℕ) → Type 0
 Higher d [] = Unit {0}
 Higher d (row ∷ rest) = row .1 < d
 
--- the next row ps a list with a first element
+-- the next row as a list with a first element
 record Next (t : List ℕ) (i : ℕ) (row : Name × ℕ) (rest : List (Name × ℕ)) : Type 0 where
   inside : i < rowCount t
   name : nameOf t i ≡ row .0
@@ -170,9 +170,6 @@ module _ (t b h : List ℕ) (eight : length h ≡ 8) (room : entryPlace (rowCoun
       ∙ ap (λ (j : ℕ). put (put b 0 (h ++ entriesBytes us)) j (entryBytes (begun u))) (sym l)
       ∙ put-put b 0 (h ++ entriesBytes us) (omega arith) (entryBytes (begun u))
       ∙ ap (put b 0) (sym q)
-
-  at-is : (us : List (Entry Name)) (d : ℕ) (rest : List (Name × ℕ)) (v w : Walk) → v ≡ w → At us d rest w → At us d rest v
-  at-is us d rest v w e a = subst (At us d rest) (sym e) a
 
   -- a step, and the open entries after it
   record Went (us : List (Entry Name)) (d : ℕ) (rest : List (Name × ℕ)) (path : List ℕ) (w : Walk) : Type 0 where

@@ -5,14 +5,19 @@ use mathlib.Core.Logic.{_≢_}
 use Prim.Native.Nat.{ℕ, _≤_}
 use lib.ListN.{length}
 use Rattle.digits.specs.Lists.{All, Distinct}
-use Rattle.trees.specs.Table.{Ruled}
+use Rattle.trees.specs.Forest.{Forest}
+use Rattle.trees.specs.Table.{forest, Ruled}
 use Rattle.trees.specs.Labelled.{Name}
 use Rattle.registers.specs.Layout.{deepest}
-use Rattle.tables.specs.Table.{mostRows, Row}
+use Rattle.tables.specs.Table.{mostRows, Row, rowsOf}
 
 -- the rows as names with their depths
 abbrev pub named : List Row → List (Name × ℕ)
 named rows = map (λ r. (record { identity = r .identity; tag = r .tag }, r .depth)) rows
+
+-- the tree that a table's depths describe
+abbrev pub tableTree : List ℕ → Forest Name
+tableTree table = forest (named (rowsOf table))
 
 abbrev pub identities : List Row → List ℕ
 identities rows = map (λ r. r .identity) rows

@@ -7,19 +7,17 @@ use Rattle.answers.specs.declared.Refusal.the-variants.{Room}
 use Rattle.answers.specs.Outcome.{Outcome, accepted, refused, unless}
 use Rattle.numbers.specs.Bytes.{put}
 use Rattle.trees.specs.Forest.{Forest, preorder}
-use Rattle.trees.specs.Table.{forest}
 use Rattle.trees.specs.Labelled.{Name, Entry, labelled}
 use Rattle.registers.specs.Layout.{entryPlace}
 use Rattle.registers.specs.Entries.{registerBytes}
 use Rattle.tables.specs.declared.Checked.{Checked}
 use Rattle.tables.specs.declared.Checked.the-variants.{Rows, Bad}
-use Rattle.tables.specs.Table.{rowsOf}
 use Rattle.tables.specs.Rules.{checkedOf}
-use Rattle.tables.specs.Accepted.{named}
+use Rattle.tables.specs.Accepted.{tableTree}
 
--- the tree that a table stands for, with 01's first codes along its tour
+-- a table's tree, with 01's first codes along its tour
 abbrev pub labelledTree : List ℕ → Forest (Entry Name)
-labelledTree table = labelled (forest (named (rowsOf table)))
+labelledTree table = labelled (tableTree table)
 
 -- 01, Order: 4 comes last; accepted, labelling answers the bytes written, and bytes past those are kept
 abbrev pub labelAs : Checked → List ℕ → List ℕ → Outcome

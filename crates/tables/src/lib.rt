@@ -64,7 +64,7 @@ fn label_rows(table: &[u32], n: usize, register: &mut [u8]) -> Answer
 }
 
 // Goes through a table by its rules. Refuses 1, 2, 3.
-pub fn check(table: &[u32]) -> Checked
+fn check(table: &[u32]) -> Checked
     ensures checked { λ r. ⌜ r ≡ checkedOf (now (table .entry)) ⌝ }
 {
     let n = table.len() / ROW;

@@ -12,6 +12,38 @@ use printer::text;
 const FILL: u8 = 90;
 // An open side: the empty field.
 const OPEN: [u8; 32] = [0; 32];
+// 01's worked rows.
+const WORKED: [u32; 12] = [10, 1, 0, 11, 2, 1, 12, 2, 1, 13, 3, 2];
+// Nine rows: a start or an end for each of the 18 numbers of 001's table 3.
+const NINE: [u32; 27] = [
+    1,
+    0,
+    0,
+    2,
+    0,
+    1,
+    3,
+    0,
+    2,
+    4,
+    0,
+    3,
+    5,
+    0,
+    1,
+    6,
+    0,
+    1,
+    7,
+    0,
+    2,
+    8,
+    0,
+    2,
+    9,
+    0,
+    1,
+];
 
 fn main() {
     first_codes();
@@ -21,40 +53,31 @@ fn main() {
     unpacking();
     betweens();
     packer();
-    tables_labelled();
+    labelling();
     registers_damaged();
 }
 
-// 001, table 3, and P1: first codes, made by the step alone. From open sides on, a cut's two codes are the one code between, and
-// the one between that and the right side.
+// First labelling. To be compared: the lines of 01's worked rows with those in 01; the nine rows' starts and ends, met along the tour
+// (112 of row 1, 12 of row 2, .., 332 of row 1), with 001's table 3 from top to bottom; the one row's with P1.
 fn first_codes() {
-    text(b"table 3:");
-    gap(OPEN, OPEN, 19);
-    text(b"\nP1:");
-    gap(OPEN, OPEN, 3);
-    newline();
+    text(b"01's worked rows:\n");
+    labelled(&WORKED);
+    text(b"table 3, on nine rows:\n");
+    labelled(&NINE);
+    text(b"P1, one row:\n");
+    labelled(&[4294967295, 4294967295, 0]);
 }
 
-// The codes inside a gap of width d, from left to right.
-fn gap(left: [u8; 32], right: [u8; 32], d: u32)
-    requires small { ⌜ d ≤ 1000 ⌝ }
+// The lines of a table's register, and the bytes past it.
+fn labelled(numbers: &[u32])
+    requires few { ⌜ length (now numbers) ≤ 27 ⌝ }
 {
-    if d < 2 {
-        return;
-    }
-    let first = middle(left, right);
-    if d == 2 {
-        code(first);
-        return;
-    }
-    let second = middle(first, right);
-    let a = (d + 1) / 3;
-    let b = (2 * d + 1) / 3;
-    gap(left, first, a);
-    code(first);
-    gap(first, second, b - a);
-    code(second);
-    gap(second, right, d - b);
+    let mut register = [FILL; 944];
+    tables::label(numbers, &mut register);
+    let n = numbers.len() / 3;
+    printer::lines(&register, n);
+    text(b"past them:");
+    runs(&register[8 + 104 * n..]);
 }
 
 fn middle(left: [u8; 32], right: [u8; 32]) -> [u8; 32] {
@@ -265,51 +288,10 @@ fn packer() {
     runs(&[one, two, three]);
 }
 
-// Labelling: 01's worked rows, 001's table 3 on nine rows, one row, each refusal, two reasons at once, and both sides of each limit.
-fn tables_labelled() {
-    labelled(&[10, 1, 0, 11, 2, 1, 12, 2, 1, 13, 3, 2]);
-    labelled(
-        &[
-            1,
-            0,
-            0,
-            2,
-            0,
-            1,
-            3,
-            0,
-            2,
-            4,
-            0,
-            3,
-            5,
-            0,
-            1,
-            6,
-            0,
-            1,
-            7,
-            0,
-            2,
-            8,
-            0,
-            2,
-            9,
-            0,
-            1,
-        ],
-    );
-    labelled(&[4294967295, 4294967295, 0]);
-    table_in(
-        b"table of 01 in 424 bytes:",
-        &[10, 1, 0, 11, 2, 1, 12, 2, 1, 13, 3, 2],
-        424,
-    );
-    table_in(
-        b"table of 01 in 423 bytes:",
-        &[10, 1, 0, 11, 2, 1, 12, 2, 1, 13, 3, 2],
-        423,
-    );
+// Labelling: the room of 01's worked rows, each refusal, two reasons at once, and both sides of each limit.
+fn labelling() {
+    table_in(b"table of 01 in 424 bytes:", &WORKED, 424);
+    table_in(b"table of 01 in 423 bytes:", &WORKED, 423);
     table_in(b"table with identity 0 in no bytes:", &[0, 1, 0], 0);
     table(b"table of no rows:", &[0; 0]);
     table(b"table of four numbers:", &[10, 1, 0, 11]);
@@ -380,19 +362,8 @@ fn table_in(name: &[u8], numbers: &[u32], room: usize)
     newline();
 }
 
-// The lines of a table's register, and the bytes past it.
-fn labelled(numbers: &[u32])
-    requires few { ⌜ length (now numbers) ≤ 27 ⌝ }
-{
-    let mut register = [FILL; 944];
-    tables::label(numbers, &mut register);
-    let n = numbers.len() / 3;
-    printer::lines(&register, n);
-    text(b"past them:");
-    runs(&register[8 + 104 * n..]);
-}
-
-// 01's worked register, sound and with one byte damaged: for each clause of its soundness one that breaks it.
+// 01's worked register, sound and with one field or number damaged; the limits of 4,096 entries and depth 63 are tried in
+// tests/c/register_test.c.
 fn registers_damaged() {
     damaged(b"register as labelled:", 424, 424, 90);
     damaged(b"register in 423 bytes:", 423, 424, 90);
@@ -400,7 +371,6 @@ fn registers_damaged() {
     damaged(b"count 0:", 424, 0, 0);
     damaged(b"count 3:", 424, 0, 3);
     damaged(b"count 5:", 432, 0, 5);
-    damaged(b"count 4100:", 432, 1, 16);
     damaged(b"second number 1:", 424, 4, 1);
     damaged(b"identity 0:", 424, 112, 0);
     damaged(b"identity twice:", 424, 112, 10);
@@ -421,7 +391,7 @@ fn damaged(name: &[u8], room: usize, at: usize, byte: u8)
     requires inside { ⌜ (room ≤ 432) × (at < 432) ⌝ }
 {
     let mut register = [FILL; 432];
-    tables::label(&[10, 1, 0, 11, 2, 1, 12, 2, 1, 13, 3, 2], &mut register);
+    tables::label(&WORKED, &mut register);
     register[at] = byte;
     asked(name, &register[..room]);
 }
