@@ -19,8 +19,8 @@ use Rattle.trees.specs.Neighbours.{newEntry, insertedEntry}
 use Rattle.trees.proofs.ListLaws.{map-twice, member-left, member-right, member-append}
 use Rattle.trees.proofs.ForestLaws.{has→member}
 use Rattle.trees.proofs.ImageLaws.{preorder-image, map-one}
-use Rattle.trees.proofs.EditLaws.{order-spot, order-put, inserted-image, without-image, taken}
-use Rattle.trees.proofs.NeighbourLaws.{new-length, inserted-sound, sound-cut}
+use Rattle.trees.proofs.EditLaws.{order-spot, order-put, inserted-image, without-image}
+use Rattle.trees.proofs.NeighbourLaws.{new-length, inserted-sound, sound-rest}
 use Rattle.registers.specs.declared.Found.{Found}
 use Rattle.registers.specs.declared.Found.the-variants.{At}
 use Rattle.registers.specs.Layout.{deepest}
@@ -91,15 +91,13 @@ module _ (b : List ℕ) (f : Forest (Entry Name)) (h : Holds b f) (m : ℕ) (s :
       → State (applyOutcome b (Delete target) .bytes) (changed (Delete target) (plain f)) m
   delete-state target n a =
       let r = delete-accepted b f h target n a in
-      let t = taken f n (omega (arith, found-inside b target n (r .target), count-size b f h)) (r .leafy) in
+      let t = r .taken in
       record {
         tree = without n f;
         holds = r .holds;
         named = deleted-plain b f h target n (r .target);
         bounded =
-            subst (Sound (Within 1 3 m) (suc deepest) [] [] []) (sym (t .taken-out))
-            (sound-cut (Within 1 3 m) (suc deepest) (leaf (t .entry)) (t .rest) (t .spot)
-            (subst (Sound (Within 1 3 m) (suc deepest) [] [] []) (sym (t .put-back)) s));
+            subst (Sound (Within 1 3 m) (suc deepest) [] [] []) (sym (t .taken-out)) (sound-rest (Within 1 3 m) (suc deepest) n f t s);
       }
 
   accepted-state : (e : Edit) (n : ℕ) → applyOutcome b e .answer ≡ Accepted n
@@ -146,15 +144,15 @@ same-label b c f g h k i j p q e =
         label-parts d n (has-place d (countOf d) n (sized-entries d (sized→ d (parts-of d s .sized))) z) (labels-sound d n s z)
 
 -- all entries of one tree are entries of the other
-abbrev Under : Forest (Entry Name) → Forest (Entry Name) → Type 0
-Under f g = (u : Entry Name) → Member u (preorder f) → Member u (preorder g)
+abbrev Included : Forest (Entry Name) → Forest (Entry Name) → Type 0
+Included f g = (u : Entry Name) → Member u (preorder f) → Member u (preorder g)
 
 one-entry : (f : Forest (Entry Name)) → Distinct (identities (preorder f)) → (u v : Entry Name) → Member u (preorder f) → Member v
     (preorder f)
     → u .name .identity ≡ v .name .identity → u ≡ v
 one-entry f d u v h k e = map-one (λ (w : Entry Name). w .name .identity) (preorder f) d u v h k e
 
-labels-stay : (b c : List ℕ) (f g : Forest (Entry Name)) → Holds b f → Holds c g → Under f g ⊎ Under g f
+labels-stay : (b c : List ℕ) (f g : Forest (Entry Name)) → Holds b f → Holds c g → Included f g ⊎ Included g f
     → LabelsStay b (plain f) c (plain g)
 labels-stay b c f g h k r i j p q e = same-label b c f g h k i j p q (go r)
   where
@@ -167,13 +165,13 @@ labels-stay b c f g h k r i j p q e = same-label b c f g h k i j p q (go r)
     same : lineAt b i .name .identity ≡ lineAt c j .name .identity
     same = ap (λ (n : Name). n .identity) (sym (name-at b f h i p)) ∙ e ∙ ap (λ (n : Name). n .identity) (name-at c g k j q)
 
-    go : Under f g ⊎ Under g f → lineAt b i ≡ lineAt c j
+    go : Included f g ⊎ Included g f → lineAt b i ≡ lineAt c j
     go (inl n) = one-entry g (k .whole .distinct) (lineAt b i) (lineAt c j) (n (lineAt b i) u) v same
     go (inr n) = one-entry f (h .whole .distinct) (lineAt b i) (lineAt c j) u (n (lineAt c j) v) same
 
 -- a row put in leaves all entries there
-put-under : (g f : Forest (Entry Name)) (q : Spot f) → Under f (put g f q)
-put-under g f q u m =
+included-put : (g f : Forest (Entry Name)) (q : Spot f) → Included f (put g f q)
+included-put g f q u m =
     subst (Member u) (sym (order-put g f q)) (go (member-append (ahead f q) (behind f q) u (subst (Member u) (order-spot f q) m)))
   where
     go : Member u (ahead f q) ⊎ Member u (behind f q) → Member u (ahead f q ++ (preorder g ++ behind f q))
@@ -191,14 +189,14 @@ module _ (b : List ℕ) (f : Forest (Entry Name)) (h : Holds b f) where
       let q = spotOf w (r .number) f in
       subst (LabelsStay b (plain f) (applyOutcome b (Insert place identity tag) .bytes))
       (inserted-plain b f h place identity tag (r .number) (r .target))
-      (labels-stay b _ f (insertedEntry w (r .number) x f) h (r .holds) (inl (put-under (leaf (newEntry x f q)) f q)))
+      (labels-stay b _ f (insertedEntry w (r .number) x f) h (r .holds) (inl (included-put (leaf (newEntry x f q)) f q)))
   accepted-stay (Delete target) n a =
       let r = delete-accepted b f h target n a in
-      let t = taken f n (omega (arith, found-inside b target n (r .target), count-size b f h)) (r .leafy) in
+      let t = r .taken in
       subst (LabelsStay b (plain f) (applyOutcome b (Delete target) .bytes)) (deleted-plain b f h target n (r .target))
       (labels-stay b _ f (without n f) h (r .holds)
-      (inr (subst (λ g. Under g f) (sym (t .taken-out)) (subst (Under (t .rest)) (t .put-back)
-      (put-under (leaf (t .entry)) (t .rest) (t .spot))))))
+      (inr (subst (λ g. Included g f) (sym (t .taken-out)) (subst (Included (t .rest)) (t .put-back)
+      (included-put (leaf (t .entry)) (t .rest) (t .spot))))))
 
 pub step-stay : (b : List ℕ) (t : Forest Name) (m : ℕ) → State b t m → (e : Edit)
     → LabelsStay b t (applyOutcome b e .bytes) (answered (applyOutcome b e .answer) e t)

@@ -23,8 +23,8 @@ use Rattle.trees.specs.Labelled.{Name, Entry, Sound}
 use Rattle.trees.specs.Edit.{Where, Spot, leaf, put, ahead, behind, levelAt, spotOf, leaf?, without}
 use Rattle.trees.specs.Neighbours.{newEntry, insertedEntry}
 use Rattle.trees.proofs.ListLaws.{all-left, all-right, all-append, distinct-put, distinct-cut, map-append}
-use Rattle.trees.proofs.EditLaws.{order-spot, order-put, size-put, taken, rooted-inserted, rooted-without}
-use Rattle.trees.proofs.NeighbourLaws.{inserted-sound, sound-cut}
+use Rattle.trees.proofs.EditLaws.{order-spot, order-put, size-put, Taken, taken, rooted-inserted, rooted-without}
+use Rattle.trees.proofs.NeighbourLaws.{inserted-sound, sound-rest}
 use Rattle.registers.specs.declared.Found.{Found}
 use Rattle.registers.specs.declared.Found.the-variants.{At, Nothing}
 use Rattle.registers.specs.Layout.{deepest}
@@ -100,9 +100,8 @@ module _ (b : List ℕ) (f : Forest (Entry Name)) (h : Holds b f) where
     }
 
   -- 01, Edit: a leaf that is not the root taken out
-  deleted-held : (i : ℕ) → i < size f → 0 < i → leaf? i f ≡ true → Holds (deletedBytes b i) (without i f)
-  deleted-held i k p l =
-      let t = taken f i k l in
+  deleted-held : (i : ℕ) → i < size f → 0 < i → Taken i f → Holds (deletedBytes b i) (without i f)
+  deleted-held i k p t =
       let g = t .rest in
       let q = t .spot in
       let u = t .entry in
@@ -120,8 +119,7 @@ module _ (b : List ℕ) (f : Forest (Entry Name)) (h : Holds b f) where
           real = subst (All (λ y. y ≢ 0)) (sym m) (all-append (λ y. y ≢ 0) (identities us) (identities vs) (r .0) (r .2));
           distinct = subst Distinct (sym m) (distinct-cut (identity u) (identities us) (identities vs)
               (subst Distinct n (h .whole .distinct)));
-          sound = sound-cut IsCode (suc deepest) (leaf u) g q
-              (subst (Sound IsCode (suc deepest) [] [] []) (sym (t .put-back)) (h .whole .sound));
+          sound = sound-rest IsCode (suc deepest) i f t (h .whole .sound);
         };
         bytes =
             subst (λ ws. take (length (registerBytes ws)) (deletedBytes b i) ≡ registerBytes ws) (sym (order-spot g q))
@@ -140,7 +138,7 @@ pub record Inserted (b : List ℕ) (w : Where) (t : ℕ) (m : Name) (f : Forest 
 -- an accepted deletion: its target's place is answered, and the buffer holds the tree without it
 pub record Deleted (b : List ℕ) (t : ℕ) (f : Forest (Entry Name)) (n : ℕ) : Type 0 where
   pub target : foundIn b t ≡ At n
-  pub leafy : leaf? n f ≡ true
+  pub taken : Taken n f
   pub holds : Holds (deleteOutcome b t .bytes) (without n f)
 
 answered : (o : Outcome) (n k : ℕ) (c : List ℕ) → o ≡ accepted k c → o .answer ≡ Accepted n → n ≡ k
@@ -203,13 +201,12 @@ module _ (b : List ℕ) (h : Holds b (treeIn b)) where
           let p = ltb-true 0 i (a1 .0) in
           let y = o ∙ delete-leaf b i (λ e. omega arith) (a2 .0) in
           let j : i ≡ n = sym (answered (deleteOutcome b t) n i (deletedBytes b i) y a) in
+          let w = taken g i (inside-tree t i k) (a2 .0) in
           subst (Deleted b t g) j
           (record {
             target = k;
-            leafy = a2 .0;
-            holds =
-                subst (λ (v : Outcome). Holds (v .bytes) (without i g)) (sym y)
-                (deleted-held b g h i (inside-tree t i k) p (a2 .0));
+            taken = w;
+            holds = subst (λ (v : Outcome). Holds (v .bytes) (without i g)) (sym y) (deleted-held b g h i (inside-tree t i k) p w);
           })
 
       go : (k : Found) → foundIn b t ≡ k → Deleted b t g n

@@ -108,15 +108,10 @@ module _ (b : List ℕ) (e : registerSound? b ≡ true) where
         go before = start-of b e i h
         go after = end-of b e i h
 
-    pub own-left : upward? w ≡ true → codeAt b (ownPlace w i) ≡ leftOf starts ends f q
-    own-left k =
-        sym (subst (λ (t : Bool). Own t (ownCode w (lineAt b i)) (leftOf starts ends f q) (rightOf starts ends f q)) k (place-at .own)
-        ∙ own-is)
-
-    pub own-right : upward? w ≡ false → codeAt b (ownPlace w i) ≡ rightOf starts ends f q
-    own-right k =
-        sym (subst (λ (t : Bool). Own t (ownCode w (lineAt b i)) (leftOf starts ends f q) (rightOf starts ends f q)) k (place-at .own)
-        ∙ own-is)
+    pub own-side : (t : Bool) → upward? w ≡ t → Own t (codeAt b (ownPlace w i)) (leftOf starts ends f q) (rightOf starts ends f q)
+    own-side t k =
+        subst (λ (x : Digits). Own t x (leftOf starts ends f q) (rightOf starts ends f q)) own-is
+        (subst (λ (t : Bool). Own t (ownCode w (lineAt b i)) (leftOf starts ends f q) (rightOf starts ends f q)) k (place-at .own))
 
     module _ (p : parented? w i ≡ true) where
       pub inner : 0 < levelAt f q
@@ -146,15 +141,11 @@ module _ (b : List ℕ) (e : registerSound? b ≡ true) where
           (λ (t : Bool). nearest t (ownCode w (lineAt b i)) (outermost t (lineAt b 0)) (linesOf b)
           ≡ other t (leftOf starts ends f q) (rightOf starts ends f q)) (sym k) found-other
 
-      pub other-right : (r own : ℕ) (up : Bool) → up ≡ upward? w → own ≡ ownPlace w i → upward? w ≡ true
-          → codeAt b r ≡ nearest up (codeAt b own) (outermost up (lineAt b 0)) (linesOf b) → codeAt b r ≡ rightOf starts ends f q
-      other-right r own up k o t n =
-          other-is r own up k o n ∙ ap (λ (z : Bool). other z (leftOf starts ends f q) (rightOf starts ends f q)) (k ∙ t)
-
-      pub other-left : (r own : ℕ) (up : Bool) → up ≡ upward? w → own ≡ ownPlace w i → upward? w ≡ false
-          → codeAt b r ≡ nearest up (codeAt b own) (outermost up (lineAt b 0)) (linesOf b) → codeAt b r ≡ leftOf starts ends f q
-      other-left r own up k o t n =
-          other-is r own up k o n ∙ ap (λ (z : Bool). other z (leftOf starts ends f q) (rightOf starts ends f q)) (k ∙ t)
+      pub other-side : (r own : ℕ) (up : Bool) → up ≡ upward? w → own ≡ ownPlace w i → (t : Bool) → upward? w ≡ t
+          → codeAt b r ≡ nearest up (codeAt b own) (outermost up (lineAt b 0)) (linesOf b)
+          → codeAt b r ≡ other t (leftOf starts ends f q) (rightOf starts ends f q)
+      other-side r own up k o t u n =
+          other-is r own up k o n ∙ ap (λ (z : Bool). other z (leftOf starts ends f q) (rightOf starts ends f q)) (k ∙ u)
 
       -- the parent start of what is put in
       parent-is : parentAt [] f q ≡ codeAt b (parentFrom w i)

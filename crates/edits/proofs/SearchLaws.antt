@@ -67,8 +67,8 @@ module _ (up : Bool) (x best y : Digits) where
   closer-behind e = rw e refl
 
 -- the search from line i on
-abbrev pub NearestFrom : List ℕ → Bool → Digits → Digits → ℕ → Digits
-NearestFrom b up x best i = nearest up x best (linesFrom b i (countOf b - i))
+abbrev pub nearestFrom : List ℕ → Bool → Digits → Digits → ℕ → Digits
+nearestFrom b up x best i = nearest up x best (linesFrom b i (countOf b - i))
 
 all-lines : (b : List ℕ) → linesFrom b 0 (countOf b - 0) ≡ linesOf b
 all-lines b = let z : countOf b - 0 ≡ countOf b = omega arith in rw z refl
@@ -77,16 +77,16 @@ no-lines : (b : List ℕ) (i : ℕ) → i ≡ countOf b → linesFrom b i (count
 no-lines b i e = let z : countOf b - countOf b ≡ 0 = omega arith in rw (e, z) refl
 
 module _ (b : List ℕ) (up : Bool) (x : Digits) where
-  pub nearest-all : (best : Digits) → nearest up x best (linesOf b) ≡ NearestFrom b up x best 0
+  pub nearest-all : (best : Digits) → nearest up x best (linesOf b) ≡ nearestFrom b up x best 0
   nearest-all best = ap (nearest up x best) (sym (all-lines b))
 
-  pub nearest-none : (best : Digits) (i : ℕ) → i ≡ countOf b → NearestFrom b up x best i ≡ best
+  pub nearest-none : (best : Digits) (i : ℕ) → i ≡ countOf b → nearestFrom b up x best i ≡ best
   nearest-none best i e = ap (nearest up x best) (no-lines b i e)
 
   pub nearest-next : registerSound? b ≡ true → (i : ℕ) → i < countOf b → (best next last : Digits)
       → next ≡ closer up x best (codeAt b (startPlace i))
       → last ≡ closer up x next (codeAt b (endPlace i))
-      → NearestFrom b up x best i ≡ NearestFrom b up x last (i + 1)
+      → nearestFrom b up x best i ≡ nearestFrom b up x last (i + 1)
   nearest-next e i h best next last p q =
       let u : Entry Name = lineAt b i in
       let r : closer up x (closer up x best (u .start)) (u .end) ≡ last =
@@ -98,25 +98,25 @@ module _ (b : List ℕ) (up : Bool) (x : Digits) where
       ∙ ap (λ (k : ℕ). nearest up x last (linesFrom b k (countOf b - k))) (sym (add-one i))
 
 -- the count from line i on
-abbrev pub LeadingFrom : List ℕ → Digits → ℕ → ℕ
-LeadingFrom b r i = leading r (linesFrom b i (countOf b - i))
+abbrev pub leadingFrom : List ℕ → Digits → ℕ → ℕ
+leadingFrom b r i = leading r (linesFrom b i (countOf b - i))
 
 module _ (b : List ℕ) (r : Digits) where
-  pub leading-all : leading r (linesOf b) ≡ 0 + LeadingFrom b r 0
+  pub leading-all : leading r (linesOf b) ≡ 0 + leadingFrom b r 0
   leading-all = let e = ap (leading r) (all-lines b) in omega arith
 
-  pub leading-none : (i : ℕ) → i ≡ countOf b → LeadingFrom b r i ≡ 0
+  pub leading-none : (i : ℕ) → i ≡ countOf b → leadingFrom b r i ≡ 0
   leading-none i e = ap (leading r) (no-lines b i e)
 
   module _ (e : registerSound? b ≡ true) (i : ℕ) (h : i < countOf b) where
-    leading-step : LeadingFrom b r i ≡ cond (below? (codeAt b (startPlace i)) r) (suc (LeadingFrom b r (suc i))) 0
+    leading-step : leadingFrom b r i ≡ cond (below? (codeAt b (startPlace i)) r) (suc (leadingFrom b r (suc i))) 0
     leading-step = ap (leading r) (lines-next b (countOf b) i h) ∙ rw (start-of b e i h) refl
 
-    pub leading-next : below? (codeAt b (startPlace i)) r ≡ true → i + LeadingFrom b r i ≡ i + 1 + LeadingFrom b r (i + 1)
+    pub leading-next : below? (codeAt b (startPlace i)) r ≡ true → i + leadingFrom b r i ≡ i + 1 + leadingFrom b r (i + 1)
     leading-next k =
-        let s : LeadingFrom b r i ≡ suc (LeadingFrom b r (suc i)) =
-        leading-step ∙ ap (λ (t : Bool). cond t (suc (LeadingFrom b r (suc i))) 0) k in
+        let s : leadingFrom b r i ≡ suc (leadingFrom b r (suc i)) =
+        leading-step ∙ ap (λ (t : Bool). cond t (suc (leadingFrom b r (suc i))) 0) k in
         rw (add-one i) (omega (arith, s))
 
-    pub leading-stop : below? (codeAt b (startPlace i)) r ≡ false → LeadingFrom b r i ≡ 0
-    leading-stop k = leading-step ∙ ap (λ (t : Bool). cond t (suc (LeadingFrom b r (suc i))) 0) k
+    pub leading-stop : below? (codeAt b (startPlace i)) r ≡ false → leadingFrom b r i ≡ 0
+    leading-stop k = leading-step ∙ ap (λ (t : Bool). cond t (suc (leadingFrom b r (suc i))) 0) k

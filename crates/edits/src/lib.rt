@@ -90,7 +90,7 @@ fn insert(register: &mut [u8], place: Place, identity: u32, tag: u32) -> Answer
 // An insertion whose target is entry `at`. Refuses 7, 3, 10, 4, 8.
 fn insert_at(register: &mut [u8], place: Place, at: usize, identity: u32, tag: u32) -> Answer
     requires sound { ⌜ registerSound? (now register) ≡ true ⌝ }
-    requires place { ⌜ at < countOf (now register) ⌝ }
+    requires at { ⌜ at < countOf (now register) ⌝ }
     ensures answer { λ r. ⌜ r
         ≡ insertAt (now (register .entry)) (whereOf place) at (record { identity = identity; tag = tag }) .answer ⌝ }
     ensures bytes { λ _. ⌜ now (register .exit)
@@ -127,7 +127,7 @@ fn delete(register: &mut [u8], target: u32) -> Answer
 // A deletion whose target is entry `at`. Refuses 7, 9.
 fn delete_at(register: &mut [u8], at: usize) -> Answer
     requires sound { ⌜ registerSound? (now register) ≡ true ⌝ }
-    requires place { ⌜ at < countOf (now register) ⌝ }
+    requires at { ⌜ at < countOf (now register) ⌝ }
     ensures answer { λ r. ⌜ r ≡ deleteAt (now (register .entry)) at .answer ⌝ }
     ensures bytes { λ _. ⌜ now (register .exit) ≡ deleteAt (now (register .entry)) at .bytes ⌝ }
 {
@@ -144,7 +144,7 @@ fn delete_at(register: &mut [u8], at: usize) -> Answer
 // Puts an entry in at a place of entry `at`, with the codes between its neighbours. Refuses 8.
 fn put_in(register: &mut [u8], place: Place, at: usize, identity: u32, tag: u32) -> Answer
     requires sound { ⌜ registerSound? (now register) ≡ true ⌝ }
-    requires place { ⌜ at < countOf (now register) ⌝ }
+    requires at { ⌜ at < countOf (now register) ⌝ }
     requires parented { ⌜ parented? (whereOf place) at ≡ true ⌝ }
     requires room { ⌜ room? (now register) ≡ true ⌝ }
     ensures answer { λ r. ⌜ r ≡ putOutcome (now (register .entry)) (record { identity = identity; tag = tag })
@@ -171,7 +171,7 @@ fn put_in(register: &mut [u8], place: Place, at: usize, identity: u32, tag: u32)
 // The neighbours of a place: one is the target's own code, the other is found.
 fn neighbours(register: &[u8], place: Place, at: usize) -> Gap
     requires sound { ⌜ registerSound? (now register) ≡ true ⌝ }
-    requires place { ⌜ at < countOf (now register) ⌝ }
+    requires at { ⌜ at < countOf (now register) ⌝ }
     requires parented { ⌜ parented? (whereOf place) at ≡ true ⌝ }
     ensures codes { λ r. ⌜ CodeAt (now (register .entry)) (r .left) × CodeAt (now (register .entry)) (r .right) ⌝ }
     ensures left { λ r. ⌜ codeAt (now (register .entry)) (r .left) ≡ leftOf starts ends
@@ -273,7 +273,7 @@ fn has_room(register: &[u8]) -> bool
 // The depth of an entry at a place of entry `at`.
 fn level(register: &[u8], place: Place, at: usize) -> usize
     requires sound { ⌜ registerSound? (now register) ≡ true ⌝ }
-    requires place { ⌜ at < countOf (now register) ⌝ }
+    requires at { ⌜ at < countOf (now register) ⌝ }
     ensures level { λ r. ⌜ r ≡ levelAt (treeIn (now (register .entry)))
         (spotIn (now (register .entry)) (whereOf place) at) ⌝ }
 {

@@ -175,25 +175,25 @@ unsound-tree b n e = go (tree? b n) refl
     go false g = refl
 
 -- looking for an identity
-abbrev pub FoundAt : List ℕ → ℕ → ℕ → Found
-FoundAt b x i = foundFrom i x (identities (linesFrom b i (countOf b - i)))
+abbrev pub foundAt : List ℕ → ℕ → ℕ → Found
+foundAt b x i = foundFrom i x (identities (linesFrom b i (countOf b - i)))
 
-pub found-all : (b : List ℕ) (x : ℕ) → foundIn b x ≡ FoundAt b x 0
+pub found-all : (b : List ℕ) (x : ℕ) → foundIn b x ≡ foundAt b x 0
 found-all b x = let z : countOf b - 0 ≡ countOf b = omega arith in rw z refl
 
 module _ (b : List ℕ) (x i : ℕ) (h : i < countOf b) where
-  found-step : FoundAt b x i ≡ cond (eqb x (lineAt b i .name .identity)) (At i) (FoundAt b x (suc i))
+  found-step : foundAt b x i ≡ cond (eqb x (lineAt b i .name .identity)) (At i) (foundAt b x (suc i))
   found-step = ap (λ us. foundFrom i x (identities us)) (lines-next b (countOf b) i h)
 
-  pub found-here : lineAt b i .name .identity ≡ x → At i ≡ FoundAt b x i
-  found-here e = sym (found-step ∙ ap (λ (t : Bool). cond t (At i) (FoundAt b x (suc i))) (eq-eqb x (lineAt b i .name .identity) (sym e)))
+  pub found-here : lineAt b i .name .identity ≡ x → At i ≡ foundAt b x i
+  found-here e = sym (found-step ∙ ap (λ (t : Bool). cond t (At i) (foundAt b x (suc i))) (eq-eqb x (lineAt b i .name .identity) (sym e)))
 
-  pub found-later : (lineAt b i .name .identity ≡ x → ⊥) → FoundAt b x i ≡ FoundAt b x (i + 1)
+  pub found-later : (lineAt b i .name .identity ≡ x → ⊥) → foundAt b x i ≡ foundAt b x (i + 1)
   found-later e =
-      found-step ∙ ap (λ (t : Bool). cond t (At i) (FoundAt b x (suc i))) (ne-eqb x (lineAt b i .name .identity) (λ z. e (sym z)))
-      ∙ ap (FoundAt b x) (sym (add-one i))
+      found-step ∙ ap (λ (t : Bool). cond t (At i) (foundAt b x (suc i))) (ne-eqb x (lineAt b i .name .identity) (λ z. e (sym z)))
+      ∙ ap (foundAt b x) (sym (add-one i))
 
-pub found-none : (b : List ℕ) (x i : ℕ) → i ≡ countOf b → Nothing ≡ FoundAt b x i
+pub found-none : (b : List ℕ) (x i : ℕ) → i ≡ countOf b → Nothing ≡ foundAt b x i
 found-none b x i e = let z : countOf b - countOf b ≡ 0 = omega arith in rw (e, z) refl
 
 pub at-is : {i j : ℕ} → At i ≡ At j → i ≡ j
@@ -248,19 +248,19 @@ found-inside b x j e =
     )
 
 -- counting what is above
-abbrev pub DepthFrom : List ℕ → ℕ → ℕ → ℕ
-DepthFrom b j i = depthIn (lineAt b j) (linesFrom b i (countOf b - i))
+abbrev pub depthFrom : List ℕ → ℕ → ℕ → ℕ
+depthFrom b j i = depthIn (lineAt b j) (linesFrom b i (countOf b - i))
 
-pub depth-all : (b : List ℕ) (j : ℕ) → DepthFrom b j 0 ≡ depthIn (lineAt b j) (linesOf b)
+pub depth-all : (b : List ℕ) (j : ℕ) → depthFrom b j 0 ≡ depthIn (lineAt b j) (linesOf b)
 depth-all b j = let z : countOf b - 0 ≡ countOf b = omega arith in rw z refl
 
 pub depth-next : (b : List ℕ) (j i : ℕ) (t : Bool) → i < countOf b → t ≡ aboveEntry? (lineAt b i) (lineAt b j)
-    → DepthFrom b j i ≡ cond t 1 0 + DepthFrom b j (i + 1)
+    → depthFrom b j i ≡ cond t 1 0 + depthFrom b j (i + 1)
 depth-next b j i t h e =
-    ap (depthIn (lineAt b j)) (lines-next b (countOf b) i h) ∙ ap (λ (z : Bool). cond z 1 0 + DepthFrom b j (suc i)) (sym e)
-    ∙ ap (λ (k : ℕ). cond t 1 0 + DepthFrom b j k) (sym (add-one i))
+    ap (depthIn (lineAt b j)) (lines-next b (countOf b) i h) ∙ ap (λ (z : Bool). cond z 1 0 + depthFrom b j (suc i)) (sym e)
+    ∙ ap (λ (k : ℕ). cond t 1 0 + depthFrom b j k) (sym (add-one i))
 
-pub depth-none : (b : List ℕ) (j i : ℕ) → i ≡ countOf b → DepthFrom b j i ≡ 0
+pub depth-none : (b : List ℕ) (j i : ℕ) → i ≡ countOf b → depthFrom b j i ≡ 0
 depth-none b j i e = let z : countOf b - countOf b ≡ 0 = omega arith in rw (e, z) refl
 
 depth-few : (v : Entry Name) (us : List (Entry Name)) → depthIn v us ≤ length us

@@ -24,10 +24,10 @@ module _ {A : Type 0} where
   depth-next a c s (suc n) v (u, h, k) = (u, inr (inr h), depth-next a c s n u k)
 
   -- n is d and v's depth in f
-  abbrev pub DepthFrom : ℕ → A → ℕ → Forest A → Type 0
-  DepthFrom d v n f = (m : ℕ) × (n ≡ d + m) × Depth v m f
+  abbrev pub depthFrom : ℕ → A → ℕ → Forest A → Type 0
+  depthFrom d v n f = (m : ℕ) × (n ≡ d + m) × Depth v m f
 
-  rows→depth : (d : ℕ) (f : Forest A) (v : A) (n : ℕ) → Member (v, n) (rows d f) → DepthFrom d v n f
+  rows→depth : (d : ℕ) (f : Forest A) (v : A) (n : ℕ) → Member (v, n) (rows d f) → depthFrom d v n f
   rows→depth d nil v n h = absurd h
   rows→depth d (node a c s) v n (inl e) =
       let i : n ≡ d = ap (λ (q : A × ℕ). q .1) e in
@@ -35,8 +35,8 @@ module _ {A : Type 0} where
   rows→depth d (node a c s) v n (inr h) =
       go (rows→depth (suc d) c v n) (rows→depth d s v n) (member-append (rows (suc d) c) (rows d s) (v, n) h)
     where
-      go : (Member (v, n) (rows (suc d) c) → DepthFrom (suc d) v n c) → (Member (v, n) (rows d s) → DepthFrom d v n s)
-          → Member (v, n) (rows (suc d) c) ⊎ Member (v, n) (rows d s) → DepthFrom d v n (node a c s)
+      go : (Member (v, n) (rows (suc d) c) → depthFrom (suc d) v n c) → (Member (v, n) (rows d s) → depthFrom d v n s)
+          → Member (v, n) (rows (suc d) c) ⊎ Member (v, n) (rows d s) → depthFrom d v n (node a c s)
       go p q (inl k) = let r = p k in (suc (r .0), omega arith, depth-children a c s (r .0) v (r .2))
       go p q (inr k) = let r = q k in (r .0, r .1, depth-next a c s (r .0) v (r .2))
 

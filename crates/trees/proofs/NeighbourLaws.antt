@@ -20,7 +20,7 @@ use Rattle.trees.specs.Labelled.{Entry, starts, ends, parents, codes, So
 use Rattle.trees.specs.Edit.{Spot, leaf, join, put, levelAt}
 use Rattle.trees.specs.Neighbours.{lastOr, headOr, codesAhead, codesBehind, leftOf, rightOf, parentAt, newEntry}
 use Rattle.trees.proofs.ListLaws.{all-left, all-right, all-append}
-use Rattle.trees.proofs.EditLaws.{height-put, height-cut}
+use Rattle.trees.proofs.EditLaws.{Taken, height-put, height-cut}
 
 -- the last of two lists, and the first
 pub last-append : (l y : Digits) (xs ys : List Digits) → lastOr l (xs ++ (y ∷ ys)) ≡ lastOr y ys
@@ -166,6 +166,12 @@ module _ {A : Type 0} where
           parented = parents-cut [] g f q (h .parented);
           height = height-cut k g f q (h .height);
         }
+
+  -- what is left when a leaf is taken out of a sound forest
+  pub sound-rest : (Code : Digits → Type 0) (k i : ℕ) (f : Forest (Entry A)) (t : Taken i f) → Sound Code k [] [] [] f
+      → Sound Code k [] [] [] (t .rest)
+  sound-rest Code k i f t h =
+      sound-cut Code k (leaf (t .entry)) (t .rest) (t .spot) (subst (Sound Code k [] [] []) (sym (t .put-back)) h)
 
   -- the neighbours of a gap of a sound forest
   module _ (m k : ℕ) (f : Forest (Entry A)) (q : Spot f) (h : Sound (Within 1 3 m) k [] [] [] f) where

@@ -1,11 +1,12 @@
 -- `neighbours` meets its contract. Assumes nothing.
 use mathlib.Core.Path.{sym, ap, _∙_, subst}
+use mathlib.Core.Bool.{true, false}
 use native.Mathlib.Omega.{arith}
 use Rattle.registers.specs.Entries.{codeAt}
 use Rattle.registers.specs.Sound.{CodeAt}
 use Rattle.edits.specs.Edits.{whereOf}
 use Rattle.edits.proofs.SearchLaws.{sized-of}
-use Rattle.edits.proofs.PlaceLaws.{own-at, own-left, own-right, other-left, other-right}
+use Rattle.edits.proofs.PlaceLaws.{own-at, own-side, other-side}
 use borrow.Author.Needs.{needs}
 use Rattle.edits.proofs.neighbours.Statement.{statement}
 use Rattle.edits.proofs.neighbours.Tie as tie
@@ -38,8 +39,8 @@ returns c =
     let u = sym (n .before .upward .ensures) ∙ c .if1 .taken in (
       (subst (CodeAt b) (sym (o .own-place .ensures)) (own-at b (a .pre .0) w i h), n .nearest .ensures .0),
       (
-        ap (codeAt b) (o .own-place .ensures) ∙ own-left b (a .pre .0) w i h u,
-        other-right b (a .pre .0) w i h (a .pre .1 .1) (n .nearest .result) _ _ (n .before .upward .ensures) (o .own-place .ensures) u
+        ap (codeAt b) (o .own-place .ensures) ∙ sym (own-side b (a .pre .0) w i h true u),
+        other-side b (a .pre .0) w i h (a .pre .1 .1) (n .nearest .result) _ _ (n .before .upward .ensures) (o .own-place .ensures) true u
             (n .nearest .ensures .1),
       ),
     )
@@ -56,9 +57,9 @@ returns-2 c =
     let u = sym (n .before .upward .ensures) ∙ c .if1 .left in (
       (n .nearest .ensures .0, subst (CodeAt b) (sym (o .own-place .ensures)) (own-at b (a .pre .0) w i h)),
       (
-        other-left b (a .pre .0) w i h (a .pre .1 .1) (n .nearest .result) _ _ (n .before .upward .ensures) (o .own-place .ensures) u
+        other-side b (a .pre .0) w i h (a .pre .1 .1) (n .nearest .result) _ _ (n .before .upward .ensures) (o .own-place .ensures) false u
             (n .nearest .ensures .1),
-        ap (codeAt b) (o .own-place .ensures) ∙ own-right b (a .pre .0) w i h u,
+        ap (codeAt b) (o .own-place .ensures) ∙ sym (own-side b (a .pre .0) w i h false u),
       ),
     )
 

@@ -6,14 +6,14 @@ use borrow.Author.Needs.{needs}
 use Rattle.registers.specs.Sound.{lineAt}
 use Rattle.registers.specs.Questions.{countOf, linesOf, depthIn}
 use Rattle.registers.proofs.SoundLaws.{has-place}
-use Rattle.registers.proofs.QuestionLaws.{sized→, sized-entries, parts-of, labels-sound, DepthFrom, depth-all, depth-next, depth-none}
+use Rattle.registers.proofs.QuestionLaws.{sized→, sized-entries, parts-of, labels-sound, depthFrom, depth-all, depth-next, depth-none}
 use Rattle.registers.proofs.depth_at.Statement.{statement}
 use Rattle.registers.proofs.depth_at.Tie as tie
 
 abbrev Inv-loop : tie.InvT-loop
 Inv-loop register place n depth₀ i₀ depth i =
     (i ≤ n) × (n ≡ countOf register) × (depth ≤ i)
-    × (depth + DepthFrom register place i ≡ depthIn (lineAt register place) (linesOf register))
+    × (depth + depthFrom register place i ≡ depthIn (lineAt register place) (linesOf register))
 
 abbrev μ-loop : tie.MeasureT-loop
 μ-loop register place n depth₀ i₀ depth i =

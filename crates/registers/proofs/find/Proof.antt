@@ -4,13 +4,13 @@ use Prim.Native.Nat.{_-_, _≤_}
 use native.Mathlib.Omega.{arith}
 use Rattle.registers.specs.Questions.{countOf, foundIn}
 use Rattle.registers.proofs.SoundLaws.{has-place}
-use Rattle.registers.proofs.QuestionLaws.{sized→, sized-entries, FoundAt, found-all, found-here, found-later, found-none}
+use Rattle.registers.proofs.QuestionLaws.{sized→, sized-entries, foundAt, found-all, found-here, found-later, found-none}
 use Rattle.registers.proofs.find.Statement.{statement}
 use Rattle.registers.proofs.find.Tie as tie
 
 abbrev Inv-loop : tie.InvT-loop
 Inv-loop register x n i₀ i =
-    (i ≤ n) × (n ≡ countOf register) × (foundIn register x ≡ FoundAt register x i)
+    (i ≤ n) × (n ≡ countOf register) × (foundIn register x ≡ foundAt register x i)
 
 abbrev μ-loop : tie.MeasureT-loop
 μ-loop register x n i₀ i =

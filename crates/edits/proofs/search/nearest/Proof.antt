@@ -7,7 +7,7 @@ use Rattle.trees.specs.Search.{closer, outermost, nearest}
 use Rattle.registers.specs.Entries.{codeAt}
 use Rattle.registers.specs.Sound.{lineAt, CodeAt}
 use Rattle.registers.specs.Questions.{countOf, linesOf}
-use Rattle.edits.proofs.SearchLaws.{sized-of, codes-at, outer-code, outer-is, NearestFrom, nearest-all, nearest-next, nearest-none}
+use Rattle.edits.proofs.SearchLaws.{sized-of, codes-at, outer-code, outer-is, nearestFrom, nearest-all, nearest-next, nearest-none}
 use Rattle.edits.proofs.search.nearest.Statement.{statement}
 use Rattle.edits.proofs.search.nearest.Tie as tie
 
@@ -15,7 +15,7 @@ abbrev Inv-loop : tie.InvT-loop
 Inv-loop register from up n best₀ i₀ best i =
     (i ≤ n) × (n ≡ countOf register) × CodeAt register best
     × (nearest up (codeAt register from) (outermost up (lineAt register 0)) (linesOf register)
-    ≡ NearestFrom register up (codeAt register from) (codeAt register best) i)
+    ≡ nearestFrom register up (codeAt register from) (codeAt register best) i)
 
 abbrev μ-loop : tie.MeasureT-loop
 μ-loop register from up n best₀ i₀ best i =

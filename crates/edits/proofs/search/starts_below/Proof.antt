@@ -8,13 +8,13 @@ use Rattle.trees.specs.Search.{leading}
 use Rattle.registers.specs.Entries.{codeAt}
 use Rattle.registers.specs.Sound.{CodeAt}
 use Rattle.registers.specs.Questions.{countOf, linesOf}
-use Rattle.edits.proofs.SearchLaws.{sized-of, codes-at, LeadingFrom, leading-all, leading-next, leading-stop, leading-none}
+use Rattle.edits.proofs.SearchLaws.{sized-of, codes-at, leadingFrom, leading-all, leading-next, leading-stop, leading-none}
 use Rattle.edits.proofs.search.starts_below.Statement.{statement}
 use Rattle.edits.proofs.search.starts_below.Tie as tie
 
 abbrev Inv-loop : tie.InvT-loop
 Inv-loop register at n i₀ i =
-    (i ≤ n) × (n ≡ countOf register) × (leading (codeAt register at) (linesOf register) ≡ i + LeadingFrom register (codeAt register at) i)
+    (i ≤ n) × (n ≡ countOf register) × (leading (codeAt register at) (linesOf register) ≡ i + leadingFrom register (codeAt register at) i)
 
 abbrev μ-loop : tie.MeasureT-loop
 μ-loop register at n i₀ i =
