@@ -9,11 +9,7 @@ use Rattle.answers.specs.declared.Answer.{Answer}
 use Rattle.answers.specs.declared.Answer.the-variants.{Accepted, Refused}
 use Rattle.answers.specs.declared.Refusal.{Refusal}
 use Rattle.answers.specs.Number.{numberOf}
-use Rattle.answers.specs.Outcome.{Outcome, accepted, Unaltered, unless}
-
--- a refusal leaves every lent byte, and is answered where its test fails
-pub unless-fails : (r : Refusal) (b : List ℕ) (o : Outcome) → unless false r b o ≡ record { answer = Refused r; bytes = b }
-unless-fails r b o = refl
+use Rattle.answers.specs.Outcome.{Outcome, accepted, refused, Unaltered, unless}
 
 -- an answer is not both
 pub accepted-refused : {A : Type 0} {n : ℕ} {r : Refusal} → Accepted n ≡ Refused r → A
@@ -25,16 +21,19 @@ pub unless-accepted : (t : Bool) (r : Refusal) (b : List ℕ) (o : Outcome) (n :
 unless-accepted true r b o n e = (refl, e)
 unless-accepted false r b o n e = accepted-refused (sym e)
 
--- a refusal that is not the test's own comes from what is asked later
-pub unless-later : (t : Bool) (r s : Refusal) (b : List ℕ) (o : Outcome) → (numberOf r ≡ numberOf s → ⊥)
-    → unless t r b o .answer ≡ Refused s → o .answer ≡ Refused s
-unless-later true r s b o n e = e
-unless-later false r s b o n e = let z : r ≡ s = cc in absurd (n (ap numberOf z))
+-- what holds of the refusal, and of what comes later where the test held, holds of the outcome
+pub unless-case : (P : Outcome → Type 0) (t : Bool) (r : Refusal) (b : List ℕ) (o : Outcome) → P (refused r b) → (t ≡ true → P o)
+    → P (unless t r b o)
+unless-case P true r b o x y = y refl
+unless-case P false r b o x y = x
+
+-- refusals with different numbers are different answers
+pub other-refusal : (r s : Refusal) → (numberOf r ≡ numberOf s → ⊥) → Refused r ≡ Refused s → ⊥
+other-refusal r s n e = let z : r ≡ s = cc in n (ap numberOf z)
 
 -- a refusal keeps every byte
 pub keeps-unless : (t : Bool) (r : Refusal) (b : List ℕ) (o : Outcome) → Unaltered b o → Unaltered b (unless t r b o)
-keeps-unless true r b o k s e = k s e
-keeps-unless false r b o k s e = refl
+keeps-unless t r b o k = unless-case (Unaltered b) t r b o (λ s e. refl) (λ _. k)
 
 pub keeps-accepted : (b c : List ℕ) (n : ℕ) → Unaltered b (accepted n c)
 keeps-accepted b c n r e = accepted-refused e

@@ -5,7 +5,7 @@ use mathlib.Core.Bool.{Bool, true, false, cond, false≢true}
 use mathlib.Core.List.{List, [], _∷_}
 use Prim.Native.Nat.{ℕ, _≤_, _<_}
 use native.Mathlib.Omega.{arith}
-use lib.Dec.{T}
+use lib.Dec.{T, leb}
 use lib.ListN.{length}
 use borrow.Author.Tests.{le-leb, lt-leb}
 use Rattle.digits.specs.Order.{Digits, below?}
@@ -15,7 +15,8 @@ use Rattle.digits.proofs.OrderLaws.{below?→}
 use Rattle.digits.proofs.CodeLaws.{formed-side, below-under}
 use Rattle.digits.proofs.BetweenLaws.{between-inside}
 use Rattle.answers.specs.declared.Refusal.the-variants.{Room, CodeLength, NoCode, Order}
-use Rattle.answers.specs.Outcome.{accepted, refused}
+use Rattle.answers.specs.Outcome.{accepted, refused, Unaltered}
+use Rattle.answers.proofs.OutcomeLaws.{keeps-unless, keeps-accepted}
 use Rattle.numbers.specs.Bytes.{put}
 use Rattle.codes.specs.declared.Sides.{Sides}
 use Rattle.codes.specs.declared.Sides.the-variants.{Ordered, NoSide, Disordered}
@@ -26,7 +27,7 @@ use Rattle.codes.specs.Field.{fieldOf, spread, lead, Slots}
 use Rattle.codes.specs.Reading.{Reading, code, empty, unsound, read, kindOf, codeHeld?, sideOf}
 use Rattle.codes.specs.declared.spread.Code.{Code}
 use Rattle.codes.specs.Spread.{digitsOf, Held}
-use Rattle.codes.specs.Calls.{written, packOutcome, unpackOutcome, sidesOf, betweenOutcome}
+use Rattle.codes.specs.Calls.{written, packOutcome, unpackAs, unpackOutcome, sidesOf, betweenAs, betweenOutcome}
 use Rattle.codes.proofs.FieldLaws.{field-length, lead-field, formed-quaternary, below?-field}
 use Rattle.codes.proofs.ReadingLaws.{read-code, read-empty, full-kind, held-code}
 use Rattle.codes.proofs.SpreadLaws.{held-is}
@@ -216,3 +217,29 @@ module _ (left right lent : List ℕ) where
     between-slots k =
         let i = between-inside _ _ (in-order left right e .gap) in
         record { small = formed-quaternary between-code (i .shape); fits = omega arith }
+
+-- a refused call keeps the lent bytes
+pub pack-keeps : (digits lent : List ℕ) → Unaltered lent (packOutcome digits lent)
+unfolding packOutcome
+pack-keeps digits lent =
+    keeps-unless (code? digits) NoCode lent _ (keeps-unless (leb fieldSize (length lent)) Room lent _ (keeps-accepted lent _ _))
+
+pub unpack-keeps : (field lent : List ℕ) → Unaltered lent (unpackOutcome field lent)
+unfolding unpackOutcome
+unpack-keeps field lent = go (read field)
+  where
+    go : (r : Reading) → Unaltered lent (unpackAs r lent)
+    go (code x) = keeps-unless (leb (length x) (length lent)) Room lent _ (keeps-accepted lent _ _)
+    go empty = λ r e. refl
+    go unsound = λ r e. refl
+
+pub between-keeps : (left right lent : List ℕ) → Unaltered lent (betweenOutcome left right lent)
+unfolding betweenOutcome
+between-keeps left right lent = go (sidesOf (read left) (read right)) (between (sideOf (read left)) (sideOf (read right)))
+  where
+    go : (s : Sides) (x : Digits) → Unaltered lent (betweenAs s x lent)
+    go NoSide x = λ r e. refl
+    go Disordered x = λ r e. refl
+    go Ordered x =
+        keeps-unless (leb fieldSize (length lent)) Room lent _
+        (keeps-unless (leb (length x) longest) CodeLength lent _ (keeps-accepted lent _ _))

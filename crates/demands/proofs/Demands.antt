@@ -13,35 +13,30 @@ use Rattle.digits.specs.Code.{Within, Enough}
 use Rattle.digits.proofs.ListLaws.{all-map}
 use Rattle.digits.proofs.CountLaws.{no-better, enough}
 use Rattle.answers.specs.declared.Answer.the-variants.{Accepted}
-use Rattle.answers.specs.declared.Refusal.the-variants.{Room, CodeLength, NoCode}
-use Rattle.answers.specs.Outcome.{Outcome, Unaltered}
-use Rattle.answers.proofs.OutcomeLaws.{accepted-refused, unless-accepted, keeps-unless, keeps-accepted}
+use Rattle.answers.specs.declared.Refusal.the-variants.{Room, NoCode}
+use Rattle.answers.specs.Outcome.{Outcome}
+use Rattle.answers.proofs.OutcomeLaws.{unless-accepted}
 use Rattle.numbers.specs.Bytes.{put}
 use Rattle.numbers.proofs.PutLaws.{put-run}
-use Rattle.codes.specs.declared.Sides.{Sides}
-use Rattle.codes.specs.declared.Sides.the-variants.{Ordered, NoSide, Disordered}
 use Rattle.codes.specs.Code.{longest, fieldSize, code?}
 use Rattle.codes.specs.Field.{fieldOf}
-use Rattle.codes.specs.Reading.{Reading, code, empty, unsound, read}
-use Rattle.codes.specs.Calls.{packOutcome, unpackAs, unpackOutcome, sidesOf, betweenAs, betweenOutcome}
+use Rattle.codes.specs.Reading.{code}
+use Rattle.codes.specs.Calls.{packOutcome, unpackOutcome}
 use Rattle.codes.proofs.TestLaws.{code?-true}
 use Rattle.codes.proofs.FieldLaws.{field-length}
 use Rattle.codes.proofs.ReadingLaws.{read-field}
-use Rattle.codes.proofs.CallLaws.{pack-written, unpack-written}
+use Rattle.codes.proofs.CallLaws.{pack-written, unpack-written, pack-keeps, unpack-keeps, between-keeps}
 use Rattle.trees.specs.Forest.{Forest, size}
 use Rattle.trees.specs.Labelled.{Name, Entry, plain, codes, Sound}
 use Rattle.trees.proofs.LabelledLaws.{codes-labelled, plain-labelled, within-labelled}
 use Rattle.trees.proofs.SearchLaws.{both-all}
-use Rattle.registers.specs.Layout.{deepest, entryPlace}
+use Rattle.registers.specs.Layout.{deepest}
 use Rattle.registers.specs.Questions.{countOf, treeIn}
 use Rattle.registers.proofs.HoldsLaws.{lines-held, sound-holds, holds-sound}
 use Rattle.registers.proofs.AnswerLaws.{tree-held}
-use Rattle.tables.specs.declared.Checked.{Checked}
-use Rattle.tables.specs.declared.Checked.the-variants.{Rows, Bad}
-use Rattle.tables.specs.Rules.{checkedOf}
 use Rattle.tables.specs.Accepted.{tableTree}
-use Rattle.tables.specs.Labelling.{labelledTree, labelAs, labelOutcome}
-use Rattle.tables.proofs.HoldsLaws.{label-holds}
+use Rattle.tables.specs.Labelling.{labelledTree, labelOutcome}
+use Rattle.tables.proofs.HoldsLaws.{Labelled, label-accepted, label-keeps, label-holds}
 use Rattle.edits.specs.declared.Edit.{Edit}
 use Rattle.edits.proofs.HoldsLaws.{apply-keeps}
 use Rattle.demands.specs.Run.{run, treeAfter, insertions}
@@ -49,52 +44,18 @@ use Rattle.demands.specs.Answers.{AllRight}
 use Rattle.demands.specs.Demands.{Demand1, Demand2, FromTable, FromRegister, EveryTable, ReadBack, Demand3, Lengths}
 use Rattle.demands.proofs.RightLaws.{count-tree, all-right}
 use Rattle.demands.proofs.RunLaws.{State, run-state, step-stay}
-use Rattle.demands.proofs.LengthLaws.{never-long}
+use Rattle.edits.proofs.LengthLaws.{never-long}
 
 -- demand 1
-keeps-unpack : (r : Reading) (lent : List ℕ) → Unaltered lent (unpackAs r lent)
-keeps-unpack (code x) lent = keeps-unless (leb (length x) (length lent)) Room lent _ (keeps-accepted lent _ _)
-keeps-unpack empty lent = λ r e. refl
-keeps-unpack unsound lent = λ r e. refl
-
-keeps-between : (s : Sides) (x : Digits) (lent : List ℕ) → Unaltered lent (betweenAs s x lent)
-keeps-between NoSide x lent = λ r e. refl
-keeps-between Disordered x lent = λ r e. refl
-keeps-between Ordered x lent =
-    keeps-unless (leb fieldSize (length lent)) Room lent _
-    (keeps-unless (leb (length x) longest) CodeLength lent _ (keeps-accepted lent _ _))
-
-keeps-label : (k : Checked) (table lent : List ℕ) → Unaltered lent (labelAs k table lent)
-keeps-label (Bad refusal) table lent = λ r e. refl
-keeps-label (Rows n) table lent = keeps-unless (leb (entryPlace n) (length lent)) Room lent _ (keeps-accepted lent _ _)
-
 -- not a program that writes before it refuses
 pub demand-1 : Demand1
-unfolding packOutcome unpackOutcome betweenOutcome labelOutcome
 demand-1 = record {
-  packing = λ digits lent. keeps-unless (code? digits) NoCode lent _
-      (keeps-unless (leb fieldSize (length lent)) Room lent _ (keeps-accepted lent _ _));
-  unpacking = λ field lent. keeps-unpack (read field) lent;
-  between = λ left right lent. keeps-between (sidesOf (read left) (read right)) _ lent;
-  labelling = λ table lent. keeps-label (checkedOf table) table lent;
-  editing = λ lent edit. apply-keeps lent edit;
+  packing = pack-keeps;
+  unpacking = unpack-keeps;
+  between = between-keeps;
+  labelling = label-keeps;
+  editing = apply-keeps;
 }
-
--- an accepted table: its rows keep the rules, and the buffer has room
-record Labelled (table lent : List ℕ) : Type 0 where
-  rows : ℕ
-  checked : checkedOf table ≡ Rows rows
-  room : entryPlace rows ≤ length lent
-
-label-accepted : (table lent : List ℕ) (n : ℕ) → labelOutcome table lent .answer ≡ Accepted n → Labelled table lent
-unfolding labelOutcome
-label-accepted table lent n a = go (checkedOf table) refl a
-  where
-    go : (k : Checked) → checkedOf table ≡ k → labelAs k table lent .answer ≡ Accepted n → Labelled table lent
-    go (Bad refusal) e h = accepted-refused (sym h)
-    go (Rows k) e h =
-        let t = unless-accepted (leb (entryPlace k) (length lent)) Room lent _ n h in
-        record { rows = k; checked = e; room = leb-true (entryPlace k) (length lent) (t .0) }
 
 -- what a run starts from
 start : (table lent : List ℕ) (m : ℕ) → Labelled table lent → All (Within 1 3 m) (codes (labelledTree table))

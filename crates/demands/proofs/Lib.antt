@@ -2,7 +2,6 @@
 pub mod Examples
 pub mod RightLaws
 pub mod RunLaws
-pub mod LengthLaws
 pub mod Demands
 pub mod Instance
 pub mod OneAnswer

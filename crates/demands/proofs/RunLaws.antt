@@ -29,8 +29,8 @@ use Rattle.registers.specs.Sound.{labelBytes, lineAt}
 use Rattle.registers.specs.Questions.{countOf, foundFrom, foundIn}
 use Rattle.registers.proofs.SoundLaws.{has-place}
 use Rattle.registers.proofs.BytesLaws.{label-parts}
-use Rattle.registers.proofs.QuestionLaws.{sized→, sized-entries, parts-of, labels-sound, found-inside}
-use Rattle.registers.proofs.HoldsLaws.{lines-held, count-size, holds-sound}
+use Rattle.registers.proofs.QuestionLaws.{sized→, sized-entries, parts-of, labels-sound}
+use Rattle.registers.proofs.HoldsLaws.{lines-held, holds-sound}
 use Rattle.edits.specs.declared.Edit.{Edit}
 use Rattle.edits.specs.declared.Edit.the-variants.{Insert, Delete}
 use Rattle.edits.specs.declared.Place.{Place}

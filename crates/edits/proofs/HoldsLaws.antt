@@ -6,41 +6,41 @@ use mathlib.Core.Bool.{true, and-eq-true-iff}
 use mathlib.Core.List.{List, [], _∷_, _++_}
 use Prim.Native.Nat.{ℕ, suc, _+_, _≤_, _<_}
 use native.Mathlib.Omega.{arith}
-use lib.Dec.{leb, ltb}
+use lib.Dec.{leb}
 use lib.ListN.{length, take}
-use borrow.Author.Tests.{leb-true, ltb-true}
+use borrow.Author.Tests.{leb-true}
 use Rattle.digits.specs.Lists.{All, Distinct}
 use Rattle.digits.proofs.ListLaws.{all-part, all-join}
 use Rattle.answers.specs.declared.Answer.the-variants.{Accepted}
-use Rattle.answers.specs.declared.Refusal.the-variants.{Identity, Room, Register, Root, CodeLength, Children, Depth}
-use Rattle.answers.specs.Outcome.{Outcome, accepted, Unaltered}
+use Rattle.answers.specs.declared.Refusal.{Refusal}
+use Rattle.answers.specs.declared.Refusal.the-variants.{CodeLength}
+use Rattle.answers.specs.Outcome.{Outcome, accepted, Unaltered, refused}
 use Rattle.answers.proofs.OutcomeLaws.{accepted-refused, unless-accepted, keeps-unless, keeps-accepted}
 use Rattle.codes.specs.Code.{longest, IsCode}
 use Rattle.identities.specs.Rows.{fresh?}
 use Rattle.identities.proofs.RowLaws.{new, differs}
 use Rattle.trees.specs.Forest.{Forest, size, preorder, Rooted}
-use Rattle.trees.specs.Labelled.{Name, Entry, Sound}
+use Rattle.trees.specs.Labelled.{Name, Entry}
 use Rattle.trees.specs.Edit.{Where, Spot, leaf, put, ahead, behind, levelAt, spotOf, leaf?, without}
 use Rattle.trees.specs.Neighbours.{newEntry, insertedEntry}
 use Rattle.trees.proofs.ListLaws.{all-left, all-right, all-append, distinct-put, distinct-cut, map-append}
 use Rattle.trees.proofs.EditLaws.{order-spot, order-put, size-put, Taken, taken, rooted-inserted, rooted-without}
 use Rattle.trees.proofs.NeighbourLaws.{inserted-sound, sound-rest}
-use Rattle.registers.specs.declared.Found.{Found}
-use Rattle.registers.specs.declared.Found.the-variants.{At, Nothing}
+use Rattle.registers.specs.declared.Found.the-variants.{At}
 use Rattle.registers.specs.Layout.{deepest}
 use Rattle.registers.specs.Entries.{registerBytes}
 use Rattle.registers.specs.Holds.{identities, Whole, Holds}
-use Rattle.registers.specs.Questions.{linesOf, registerSound?, foundIn, treeIn}
+use Rattle.registers.specs.Questions.{foundIn, treeIn}
 use Rattle.registers.proofs.QuestionLaws.{found-inside}
-use Rattle.registers.proofs.HoldsLaws.{lines-held, whole-bytes, count-is, count-size, holds-sound}
+use Rattle.registers.proofs.HoldsLaws.{lines-held, whole-bytes, count-is, count-size}
 use Rattle.registers.proofs.AnswerLaws.{tree-held}
 use Rattle.edits.specs.Splice.{insertedBytes, deletedBytes}
 use Rattle.edits.specs.declared.Edit.{Edit}
 use Rattle.edits.specs.declared.Edit.the-variants.{Insert, Delete}
-use Rattle.edits.specs.Edits.{parented?, room?, fits?, insertFound, insertOutcome, deleteFound, deleteOutcome, applyOutcome}
+use Rattle.edits.specs.Edits.{whereOf, targetOf, room?, fits?, insertOutcome, deleteOutcome, applyOutcome, spotIn, putOutcome}
 use Rattle.edits.proofs.SpliceLaws.{inserted-holds, deleted-holds}
 use Rattle.edits.proofs.PlaceLaws.{inner}
-use Rattle.edits.proofs.OutcomeLaws.{insert-absent, insert-found, at-put, put-done, delete-absent, delete-found, delete-leaf, room-for}
+use Rattle.edits.proofs.OutcomeLaws.{Passed, room-for, put-done, insert-cases, delete-cases}
 
 abbrev identity : Entry Name → ℕ
 identity u = u .name .identity
@@ -128,118 +128,91 @@ module _ (b : List ℕ) (f : Forest (Entry Name)) (h : Holds b f) where
       })
 
 -- an accepted insertion: its target is found, and the buffer holds the tree with the new leaf, whose place is answered
-pub record Inserted (b : List ℕ) (w : Where) (t : ℕ) (m : Name) (f : Forest (Entry Name)) (n : ℕ) : Type 0 where
+pub record Inserted (b : List ℕ) (w : Where) (t : ℕ) (m : Name) (f : Forest (Entry Name)) (n : ℕ) (after : List ℕ) : Type 0 where
   pub number : ℕ
   pub target : foundIn b t ≡ At number
   pub place : n ≡ length (ahead f (spotOf w number f))
   pub level : levelAt f (spotOf w number f) < suc deepest
-  pub holds : Holds (insertOutcome b w t m .bytes) (insertedEntry w number m f)
+  pub holds : Holds after (insertedEntry w number m f)
 
 -- an accepted deletion: its target's place is answered, and the buffer holds the tree without it
-pub record Deleted (b : List ℕ) (t : ℕ) (f : Forest (Entry Name)) (n : ℕ) : Type 0 where
+pub record Deleted (b : List ℕ) (t : ℕ) (f : Forest (Entry Name)) (n : ℕ) (after : List ℕ) : Type 0 where
   pub target : foundIn b t ≡ At n
   pub taken : Taken n f
-  pub holds : Holds (deleteOutcome b t .bytes) (without n f)
+  pub holds : Holds after (without n f)
 
 answered : (o : Outcome) (n k : ℕ) (c : List ℕ) → o ≡ accepted k c → o .answer ≡ Accepted n → n ≡ k
 answered o n k c e a = let z : Accepted n ≡ Accepted k = sym a ∙ ap (λ (p : Outcome). p .answer) e in cc
+
+-- what is accepted is no refusal
+refused-not : {A : Type 0} (b : List ℕ) (n : ℕ) (r : Refusal) → refused r b .answer ≡ Accepted n → A
+refused-not b n r e = accepted-refused (sym e)
 
 -- in terms of the tree that the lines stand for
 module _ (b : List ℕ) (h : Holds b (treeIn b)) where
   abbrev g : Forest (Entry Name)
   g = treeIn b
 
-  sound-here : registerSound? b ≡ true
-  sound-here = holds-sound b g h
-
   inside-tree : (t i : ℕ) → foundIn b t ≡ At i → i < size g
   inside-tree t i e = omega (arith, found-inside b t i e, count-size b g h)
 
-  insert-here : (w : Where) (t : ℕ) (m : Name) (n : ℕ) → insertOutcome b w t m .answer ≡ Accepted n → Inserted b w t m g n
-  insert-here w t m n a = go (foundIn b t) refl
-    where
-      found : (i : ℕ) → foundIn b t ≡ At i → Inserted b w t m g n
-      found i k =
-          let q = spotOf w i g in
-          let x = newEntry m g q in
-          let o = insert-found b w t m sound-here i k in
-          let a0 = ap (λ (p : Outcome). p .answer) (sym o) ∙ a in
-          let a1 = unless-accepted (parented? w i) Root b _ n a0 in
-          let a2 = unless-accepted (fresh? (m .identity) (identities (linesOf b))) Identity b _ n (a1 .1) in
-          let a3 = unless-accepted (leb (levelAt g q) deepest) Depth b _ n (a2 .1) in
-          let a4 = unless-accepted (room? b) Room b _ n (a3 .1) in
-          let a5 = unless-accepted (fits? x) CodeLength b _ n (a4 .1) in
-          let z = and-eq-true-iff (leb (length (x .start)) longest) (leb (length (x .end)) longest) .0 (a5 .0) in
-          let s = leb-true (length (x .start)) longest (z .0) in
-          let e = leb-true (length (x .end)) longest (z .1) in
-          let d = leb-true (levelAt g q) deepest (a3 .0) in
-          let y = o ∙ at-put b w i m (a1 .0) (a2 .0) d (a4 .0) ∙ put-done b m g q s e in
-          record {
-            number = i;
-            target = k;
-            place = answered (insertOutcome b w t m) n (length (ahead g q)) (insertedBytes b (length (ahead g q)) x) y a;
-            level = omega arith;
-            holds =
-                subst (λ (p : Outcome). Holds (p .bytes) (insertedEntry w i m g)) (sym y)
-                (inserted-held b g h w i m (inside-tree t i k) (inner b sound-here w i (found-inside b t i k) (a1 .0))
-                (subst (λ us. fresh? (m .identity) (identities us) ≡ true) (lines-held b g h) (a2 .0)) d (a4 .0) s e);
-          }
+  -- the codes of the new entry fit
+  put-held : (w : Where) (t : ℕ) (m : Name) (n i : ℕ) → Passed b w t m i → putOutcome b m g (spotIn b w i) .answer ≡ Accepted n
+      → Inserted b w t m g n (putOutcome b m g (spotIn b w i) .bytes)
+  put-held w t m n i c a =
+      let q = spotIn b w i in
+      let x = newEntry m g q in
+      let f = unless-accepted (fits? x) CodeLength b _ n a in
+      let z = and-eq-true-iff (leb (length (x .start)) longest) (leb (length (x .end)) longest) .0 (f .0) in
+      let s = leb-true (length (x .start)) longest (z .0) in
+      let e = leb-true (length (x .end)) longest (z .1) in
+      let y = put-done b m g q s e in
+      record {
+        number = i;
+        target = c .target;
+        place = answered (putOutcome b m g q) n (length (ahead g q)) (insertedBytes b (length (ahead g q)) x) y a;
+        level = omega (arith, c .level);
+        holds =
+            subst (λ (p : Outcome). Holds (p .bytes) (insertedEntry w i m g)) (sym y)
+            (inserted-held b g h w i m (inside-tree t i (c .target)) (inner b (c .sound) w i (found-inside b t i (c .target)) (c .parented))
+            (subst (λ us. fresh? (m .identity) (identities us) ≡ true) (lines-held b g h) (c .new)) (c .level) (c .room) s e);
+      }
 
-      go : (k : Found) → foundIn b t ≡ k → Inserted b w t m g n
-      go (At i) k = found i k
-      go Nothing k =
-          accepted-refused (sym a ∙ ap (λ (p : Outcome). p .answer) (insert-absent b w t m sound-here k))
+  cut-held : (t n i : ℕ) → foundIn b t ≡ At i → 0 < i → leaf? i g ≡ true → Accepted i ≡ Accepted n → Deleted b t g n (deletedBytes b i)
+  cut-held t n i k p l a =
+      let w = taken g i (inside-tree t i k) l in
+      let r : Deleted b t g i (deletedBytes b i) =
+      record { target = k; taken = w; holds = deleted-held b g h i (inside-tree t i k) p w } in
+      subst (λ j. Deleted b t g j (deletedBytes b i)) (answered (accepted i (deletedBytes b i)) i n (deletedBytes b i) (cc) refl) r
 
-  delete-here : (t n : ℕ) → deleteOutcome b t .answer ≡ Accepted n → Deleted b t g n
-  delete-here t n a = go (foundIn b t) refl
-    where
-      found : (i : ℕ) → foundIn b t ≡ At i → Deleted b t g n
-      found i k =
-          let o = delete-found b t sound-here i k in
-          let a1 = unless-accepted (ltb 0 i) Root b _ n (ap (λ (p : Outcome). p .answer) (sym o) ∙ a) in
-          let a2 = unless-accepted (leaf? i g) Children b _ n (a1 .1) in
-          let p = ltb-true 0 i (a1 .0) in
-          let y = o ∙ delete-leaf b i (λ e. omega arith) (a2 .0) in
-          let j : i ≡ n = sym (answered (deleteOutcome b t) n i (deletedBytes b i) y a) in
-          let w = taken g i (inside-tree t i k) (a2 .0) in
-          subst (Deleted b t g) j
-          (record {
-            target = k;
-            taken = w;
-            holds = subst (λ (v : Outcome). Holds (v .bytes) (without i g)) (sym y) (deleted-held b g h i (inside-tree t i k) p w);
-          })
+  insert-here : (w : Where) (t : ℕ) (m : Name) (n : ℕ) → insertOutcome b w t m .answer ≡ Accepted n
+      → Inserted b w t m g n (insertOutcome b w t m .bytes)
+  insert-here w t m n =
+      insert-cases b (λ o. o .answer ≡ Accepted n → Inserted b w t m g n (o .bytes)) (λ r _ e. refused-not b n r e) w t m (put-held w t m n)
 
-      go : (k : Found) → foundIn b t ≡ k → Deleted b t g n
-      go (At i) k = found i k
-      go Nothing k = accepted-refused (sym a ∙ ap (λ (p : Outcome). p .answer) (delete-absent b t sound-here k))
+  delete-here : (t n : ℕ) → deleteOutcome b t .answer ≡ Accepted n → Deleted b t g n (deleteOutcome b t .bytes)
+  delete-here t n =
+      delete-cases b (λ o. o .answer ≡ Accepted n → Deleted b t g n (o .bytes)) (λ r _ e. refused-not b n r e) t
+      (λ i _ k p l a. cut-held t n i k p l a)
 
 module _ (b : List ℕ) (f : Forest (Entry Name)) (h : Holds b f) where
   here : Holds b (treeIn b)
   here = subst (Holds b) (sym (tree-held b f h)) h
 
-  pub insert-accepted : (w : Where) (t : ℕ) (m : Name) (n : ℕ) → insertOutcome b w t m .answer ≡ Accepted n → Inserted b w t m f n
-  insert-accepted w t m n a = subst (λ g. Inserted b w t m g n) (tree-held b f h) (insert-here b here w t m n a)
+  pub insert-accepted : (w : Where) (t : ℕ) (m : Name) (n : ℕ) → insertOutcome b w t m .answer ≡ Accepted n
+      → Inserted b w t m f n (insertOutcome b w t m .bytes)
+  insert-accepted w t m n a = subst (λ g. Inserted b w t m g n (insertOutcome b w t m .bytes)) (tree-held b f h) (insert-here b here w t m n a)
 
-  pub delete-accepted : (t n : ℕ) → deleteOutcome b t .answer ≡ Accepted n → Deleted b t f n
-  delete-accepted t n a = subst (λ g. Deleted b t g n) (tree-held b f h) (delete-here b here t n a)
+  pub delete-accepted : (t n : ℕ) → deleteOutcome b t .answer ≡ Accepted n → Deleted b t f n (deleteOutcome b t .bytes)
+  delete-accepted t n a = subst (λ g. Deleted b t g n (deleteOutcome b t .bytes)) (tree-held b f h) (delete-here b here t n a)
 
 -- a refused edit leaves every byte
-keeps-insert : (b : List ℕ) (w : Where) (k : Found) (m : Name) → Unaltered b (insertFound b w k m)
-keeps-insert b w Nothing m = λ r e. refl
-keeps-insert b w (At i) m =
-    keeps-unless (parented? w i) Root b _
-    (keeps-unless (fresh? (m .identity) (identities (linesOf b))) Identity b _
-    (keeps-unless (leb (levelAt (treeIn b) (spotOf w i (treeIn b))) deepest) Depth b _
-    (keeps-unless (room? b) Room b _
-    (keeps-unless (fits? (newEntry m (treeIn b) (spotOf w i (treeIn b)))) CodeLength b _ (keeps-accepted b _ _)))))
-
-keeps-delete : (b : List ℕ) (k : Found) → Unaltered b (deleteFound b k)
-keeps-delete b Nothing = λ r e. refl
-keeps-delete b (At i) =
-    keeps-unless (ltb 0 i) Root b _ (keeps-unless (leaf? i (treeIn b)) Children b _ (keeps-accepted b _ _))
+put-keeps : (b : List ℕ) (m : Name) (f : Forest (Entry Name)) (q : Spot f) → Unaltered b (putOutcome b m f q)
+put-keeps b m f q = keeps-unless (fits? (newEntry m f q)) CodeLength b _ (keeps-accepted b _ _)
 
 pub apply-keeps : (b : List ℕ) (x : Edit) → Unaltered b (applyOutcome b x)
-unfolding insertOutcome deleteOutcome
 apply-keeps b (Insert place identity tag) =
-    keeps-unless (registerSound? b) Register b _ (keeps-insert b _ (foundIn b _) (record { identity = identity; tag = tag }))
-apply-keeps b (Delete target) = keeps-unless (registerSound? b) Register b _ (keeps-delete b (foundIn b target))
+    let m : Name = record { identity = identity; tag = tag } in
+    insert-cases b (Unaltered b) (λ r _ s e. refl) (whereOf place) (targetOf place) m
+    (λ i c. put-keeps b m (treeIn b) (spotIn b (whereOf place) i))
+apply-keeps b (Delete target) = delete-cases b (Unaltered b) (λ r _ s e. refl) target (λ i _ _ _ _. keeps-accepted b _ i)

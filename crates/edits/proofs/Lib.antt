@@ -1,7 +1,8 @@
--- Laws of edits: bytes moved, neighbours found. Assumes nothing.
+-- Laws of edits: bytes moved, neighbours found, outcomes, what the buffer holds. Assumes nothing.
 pub mod SpliceLaws
 pub mod SearchLaws
 pub mod PlaceLaws
 pub mod OutcomeLaws
 pub mod SignableLaws
 pub mod HoldsLaws
+pub mod LengthLaws

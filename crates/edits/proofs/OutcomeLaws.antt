@@ -7,8 +7,11 @@ use native.Mathlib.Omega.{arith}
 use lib.Dec.{leb, ltb}
 use lib.ListN.{length}
 use borrow.Author.Tests.{ltb-true, leb-true, le-leb, lt-leb, lt-ltb, le-ltb}
+use Rattle.answers.specs.declared.Refusal.{Refusal}
 use Rattle.answers.specs.declared.Refusal.the-variants.{Identity, Room, Register, Target, Root, CodeLength, Children, Depth}
-use Rattle.answers.specs.Outcome.{accepted, refused}
+use Rattle.answers.specs.Number.{numberOf}
+use Rattle.answers.specs.Outcome.{Outcome, accepted, refused, unless}
+use Rattle.answers.proofs.OutcomeLaws.{unless-case}
 use Rattle.codes.specs.Code.{longest}
 use Rattle.identities.specs.Rows.{fresh?}
 use Rattle.identities.proofs.RowLaws.{fresh-zero, fresh-used, fresh-right}
@@ -16,13 +19,14 @@ use Rattle.trees.specs.Forest.{Forest}
 use Rattle.trees.specs.Labelled.{Name, Entry}
 use Rattle.trees.specs.Edit.{Where, inside?, Spot, ahead, levelAt, spotOf, leaf?}
 use Rattle.trees.specs.Neighbours.{newEntry}
+use Rattle.registers.specs.declared.Found.{Found}
 use Rattle.registers.specs.declared.Found.the-variants.{At, Nothing}
 use Rattle.registers.specs.Layout.{mostEntries, deepest, entryPlace}
 use Rattle.registers.specs.Holds.{identities}
 use Rattle.registers.specs.Questions.{countOf, linesOf, registerSound?, foundIn, treeIn}
 use Rattle.registers.proofs.QuestionLaws.{found-among, among-found}
 use Rattle.edits.specs.Splice.{insertedBytes, deletedBytes}
-use Rattle.edits.specs.Edits.{parented?, room?, putOutcome, insertAt, insertOutcome, deleteAt, deleteOutcome}
+use Rattle.edits.specs.Edits.{parented?, room?, spotIn, putOutcome, insertAt, insertFound, insertOutcome, deleteAt, deleteFound, deleteOutcome}
 
 -- 5 and 6
 module _ (b : List ℕ) (w : Where) (t : ℕ) (m : Name) where
@@ -133,3 +137,43 @@ module _ (b : List ℕ) where
 -- the place of the target
 pub root-place : (w : Where) (i : ℕ) (t : Bool) → inside? w ≡ false → t ≡ ltb 0 i → t ≡ parented? w i
 root-place w i t e h = rw e h
+
+-- the tests of an insertion that come before 8, at entry i
+pub record Passed (b : List ℕ) (w : Where) (t : ℕ) (m : Name) (i : ℕ) : Type 0 where
+  pub sound : registerSound? b ≡ true
+  pub target : foundIn b t ≡ At i
+  pub parented : parented? w i ≡ true
+  pub new : fresh? (m .identity) (identities (linesOf b)) ≡ true
+  pub level : levelAt (treeIn b) (spotIn b w i) ≤ deepest
+  pub room : room? b ≡ true
+
+-- what holds of every other refusal, and where those tests held, holds of the insertion
+module _ (b : List ℕ) (P : Outcome → Type 0) (other : (r : Refusal) → (numberOf r ≡ numberOf CodeLength → ⊥) → P (refused r b)) where
+  test : (t : Bool) (r : Refusal) (o : Outcome) → (numberOf r ≡ numberOf CodeLength → ⊥) → (t ≡ true → P o) → P (unless t r b o)
+  test t r o n y = unless-case P t r b o (other r n) y
+
+  pub insert-cases : (w : Where) (t : ℕ) (m : Name) → ((i : ℕ) → Passed b w t m i → P (putOutcome b m (treeIn b) (spotIn b w i)))
+      → P (insertOutcome b w t m)
+  unfolding insertOutcome
+  insert-cases w t m y = test (registerSound? b) Register _ (λ n. omega arith) (λ e. go e (foundIn b t) refl)
+    where
+      go : registerSound? b ≡ true → (k : Found) → foundIn b t ≡ k → P (insertFound b w k m)
+      go e Nothing k = other Target (λ n. omega arith)
+      go e (At i) k =
+          test (parented? w i) Root _ (λ n. omega arith)
+          (λ p. test (fresh? (m .identity) (identities (linesOf b))) Identity _ (λ n. omega arith)
+          (λ f. test (leb (levelAt (treeIn b) (spotIn b w i)) deepest) Depth _ (λ n. omega arith)
+          (λ d. test (room? b) Room _ (λ n. omega arith)
+          (λ r. y i (record { sound = e; target = k; parented = p; new = f; level = leb-true _ deepest d; room = r })))))
+
+  pub delete-cases : (t : ℕ)
+      → ((i : ℕ) → registerSound? b ≡ true → foundIn b t ≡ At i → 0 < i → leaf? i (treeIn b) ≡ true → P (accepted i (deletedBytes b i)))
+      → P (deleteOutcome b t)
+  unfolding deleteOutcome
+  delete-cases t y = test (registerSound? b) Register _ (λ n. omega arith) (λ e. go e (foundIn b t) refl)
+    where
+      go : registerSound? b ≡ true → (k : Found) → foundIn b t ≡ k → P (deleteFound b k)
+      go e Nothing k = other Target (λ n. omega arith)
+      go e (At i) k =
+          test (ltb 0 i) Root _ (λ n. omega arith)
+          (λ p. test (leaf? i (treeIn b)) Children _ (λ n. omega arith) (λ l. y i e k (ltb-true 0 i p) l))

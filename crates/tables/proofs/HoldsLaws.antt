@@ -1,14 +1,19 @@
 -- An accepted table gives a sound register whose plain tree is the table's, with first codes of at most m digits. Assumes nothing.
-use mathlib.Core.Path.{_≡_, sym, ap, _∙_, subst}
+use mathlib.Core.Path.{_≡_, refl, sym, ap, _∙_, subst}
 use mathlib.Core.Logic.{_≢_}
 use mathlib.Core.Bool.{true}
 use mathlib.Core.List.{List, [], _∷_, map}
 use Prim.Native.Nat.{ℕ, suc, _*_, _≤_}
 use native.Mathlib.Omega.{arith}
+use lib.Dec.{leb}
 use lib.ListN.{length, take}
+use borrow.Author.Tests.{leb-true}
 use Rattle.digits.specs.Lists.{All, Distinct}
 use Rattle.digits.specs.Code.{Within, Enough}
-use Rattle.answers.specs.Outcome.{Outcome}
+use Rattle.answers.specs.declared.Answer.the-variants.{Accepted}
+use Rattle.answers.specs.declared.Refusal.the-variants.{Room}
+use Rattle.answers.specs.Outcome.{Outcome, Unaltered}
+use Rattle.answers.proofs.OutcomeLaws.{accepted-refused, unless-accepted, keeps-unless, keeps-accepted}
 use Rattle.numbers.proofs.PutLaws.{put-run}
 use Rattle.codes.specs.Code.{IsCode}
 use Rattle.trees.specs.Forest.{preorder, Rooted}
@@ -23,11 +28,12 @@ use Rattle.registers.specs.Entries.{registerBytes}
 use Rattle.registers.specs.Holds.{identities as identitiesOf, Whole, Holds}
 use Rattle.registers.specs.Questions.{registerSound?}
 use Rattle.registers.proofs.HoldsLaws.{holds-sound}
-use Rattle.tables.specs.declared.Checked.the-variants.{Rows}
+use Rattle.tables.specs.declared.Checked.{Checked}
+use Rattle.tables.specs.declared.Checked.the-variants.{Rows, Bad}
 use Rattle.tables.specs.Table.{rowsOf}
 use Rattle.tables.specs.Rules.{checkedOf}
 use Rattle.tables.specs.Accepted.{named, identities, tableTree}
-use Rattle.tables.specs.Labelling.{labelledTree, labelOutcome}
+use Rattle.tables.specs.Labelling.{labelledTree, labelAs, labelOutcome}
 use Rattle.tables.proofs.RowLaws.{rows-length}
 use Rattle.tables.proofs.AcceptedLaws.{accepted, accepted-tree}
 use Rattle.tables.proofs.TourLaws.{naming, named-length}
@@ -88,3 +94,28 @@ module _ (t : List ℕ) (n : ℕ) (e : checkedOf t ≡ Rows n) where
 -- .. and its plain tree is the one whose rows are the table's
 pub label-plain : (t : List ℕ) → plain (labelledTree t) ≡ tableTree t
 label-plain t = plain-labelled (tableTree t)
+
+-- an accepted table: its rows keep the rules, and the buffer has room
+pub record Labelled (table lent : List ℕ) : Type 0 where
+  pub rows : ℕ
+  pub checked : checkedOf table ≡ Rows rows
+  pub room : entryPlace rows ≤ length lent
+
+pub label-accepted : (table lent : List ℕ) (n : ℕ) → labelOutcome table lent .answer ≡ Accepted n → Labelled table lent
+unfolding labelOutcome
+label-accepted table lent n a = go (checkedOf table) refl a
+  where
+    go : (k : Checked) → checkedOf table ≡ k → labelAs k table lent .answer ≡ Accepted n → Labelled table lent
+    go (Bad refusal) e h = accepted-refused (sym h)
+    go (Rows k) e h =
+        let t = unless-accepted (leb (entryPlace k) (length lent)) Room lent _ n h in
+        record { rows = k; checked = e; room = leb-true (entryPlace k) (length lent) (t .0) }
+
+-- a refused table keeps the lent bytes
+pub label-keeps : (table lent : List ℕ) → Unaltered lent (labelOutcome table lent)
+unfolding labelOutcome
+label-keeps table lent = go (checkedOf table)
+  where
+    go : (k : Checked) → Unaltered lent (labelAs k table lent)
+    go (Bad refusal) = λ r e. refl
+    go (Rows n) = keeps-unless (leb (entryPlace n) (length lent)) Room lent _ (keeps-accepted lent _ _)
