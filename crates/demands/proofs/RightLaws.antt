@@ -18,7 +18,7 @@ use Rattle.trees.specs.Lists.{Member}
 use Rattle.trees.specs.Forest.{Forest, size, preorder}
 use Rattle.trees.specs.Axes.{Has, Parent, Ancestor, Sibling, Before}
 use Rattle.trees.specs.Questions.{ParentCodes, SiblingCodes}
-use Rattle.trees.specs.Labelled.{Name, Entry, starts, ends, parents, plain}
+use Rattle.trees.specs.Labelled.{Name, Entry, starts, ends, parents, plain, names}
 use Rattle.trees.proofs.ListLaws.{member-at}
 use Rattle.trees.proofs.ForestLaws.{length-preorder, member→has, has→member}
 use Rattle.trees.proofs.ImageLaws.{size-image, preorder-image, depth-image, map-one, ancestor-image, parent-image, sibling-image, before-image}
@@ -85,9 +85,6 @@ module _ (u v : Entry Name) where
 abbrev nothing : Entry Name
 nothing = record { name = record { identity = 0; tag = 0 }; start = []; end = []; parent = [] }
 
-abbrev pub nameOf : Entry Name → Name
-nameOf u = u .name
-
 module _ (b : List ℕ) (f : Forest (Entry Name)) (h : Holds b f) where
   abbrev t : Forest Name
   t = plain f
@@ -96,7 +93,7 @@ module _ (b : List ℕ) (f : Forest (Entry Name)) (h : Holds b f) where
   sound = holds-sound b f h
 
   pub count-tree : countOf b ≡ size t
-  count-tree = count-size b f h ∙ sym (size-image nameOf f)
+  count-tree = count-size b f h ∙ sym (size-image names f)
 
   line : (i : ℕ) → i < size t → lineAt b i ≡ getD (preorder f) i nothing
   line i k =
@@ -106,14 +103,14 @@ module _ (b : List ℕ) (f : Forest (Entry Name)) (h : Holds b f) where
 
   pub name-at : (i : ℕ) → i < size t → entry t i ≡ lineAt b i .name
   name-at i k =
-      ap (λ (ns : List Name). getD ns i (nothing .name)) (preorder-image nameOf f) ∙ List·getD-map nameOf (preorder f) i nothing
-      ∙ ap nameOf (sym (line i k))
+      ap (λ (ns : List Name). getD ns i (nothing .name)) (preorder-image names f) ∙ List·getD-map names (preorder f) i nothing
+      ∙ ap names (sym (line i k))
 
   pub present : (i : ℕ) → i < size t → Has (lineAt b i) f
   present i k =
       member→has f (lineAt b i)
       (subst (λ (u : Entry Name). Member u (preorder f)) (sym (line i k))
-      (member-at (preorder f) i nothing (omega (arith, length-preorder f, size-image nameOf f))))
+      (member-at (preorder f) i nothing (omega (arith, length-preorder f, size-image names f))))
 
   one-name : (u v : Entry Name) → Has u f → Has v f → u .name ≡ v .name → u ≡ v
   one-name u v i j e =
@@ -148,16 +145,16 @@ module _ (b : List ℕ) (f : Forest (Entry Name)) (h : Holds b f) where
       where
         go : (a : ℤ) → Ordered (u .start) (v .start) a
             → SaysOrder (Before (u .name) (v .name) t) (u .name ≡ v .name) (Before (v .name) (u .name) t) a
-        go a (before c) = minus-one (before-image nameOf f one-name u v hu hv .0
+        go a (before c) = minus-one (before-image names f one-name u v hu hv .0
             (order-codes starts ends f (h .whole .sound .rising) u v hu hv .0 c))
-        go a (same e) = zero-one (ap nameOf (one-start starts ends f (h .whole .sound .rising) u v hu hv e))
-        go a (behind c) = plus-one (before-image nameOf f one-name v u hv hu .0
+        go a (same e) = zero-one (ap names (one-start starts ends f (h .whole .sound .rising) u v hu hv e))
+        go a (behind c) = plus-one (before-image names f one-name v u hv hu .0
             (order-codes starts ends f (h .whole .sound .rising) v u hv hu .0 c))
 
     says-above : Says (Ancestor (u .name) (v .name) t) (aboveAnswer (labelBytes b i) (labelBytes b j))
     says-above =
         let c = above-codes starts ends f (h .whole .sound .rising) u v hu hv in
-        let g = ancestor-image nameOf f one-name u v hu hv in
+        let g = ancestor-image names f one-name u v hu hv in
         subst (Says (Ancestor (u .name) (v .name) t)) (sym (asked-lines b i j sound in-i in-j (λ x y. yesNo (above? x y))))
         (says _ (above? (labelIn u) (labelIn v)) (λ e. g .0 (c .0 (above→ (labelIn u) (labelIn v) e)))
         (λ a. let d = c .1 (g .1 a) in →above (labelIn u) (labelIn v) (d .0) (d .1)))
@@ -165,21 +162,21 @@ module _ (b : List ℕ) (f : Forest (Entry Name)) (h : Holds b f) where
     says-parent : Says (Parent (u .name) (v .name) t) (parentAnswer (labelBytes b i) (labelBytes b j))
     says-parent =
         let c = parent-codes starts ends parents f (h .whole .sound .rising) (h .whole .sound .parented) u v hu hv in
-        let g = parent-image nameOf f one-name u v hu hv in
+        let g = parent-image names f one-name u v hu hv in
         subst (Says (Parent (u .name) (v .name) t)) (sym (asked-lines b i j sound in-i in-j (λ x y. yesNo (parent? x y))))
         (says _ (parent? (labelIn u) (labelIn v)) (λ e. g .0 (c .0 (parent→ u v e))) (λ a. →parent u v (c .1 (g .1 a))))
 
     says-sibling : Says (Sibling (u .name) (v .name) t) (siblingAnswer (labelBytes b i) (labelBytes b j))
     says-sibling =
         let c = sibling-codes starts ends parents f (h .whole .sound .rising) (h .whole .sound .parented) u v hu hv in
-        let g = sibling-image nameOf f one-name u v hu hv in
+        let g = sibling-image names f one-name u v hu hv in
         subst (Says (Sibling (u .name) (v .name) t)) (sym (asked-lines b i j sound in-i in-j (λ x y. yesNo (sibling? x y))))
         (says _ (sibling? (labelIn u) (labelIn v)) (λ e. g .0 (c .0 (sibling→ u v e))) (λ a. →sibling u v (c .1 (g .1 a))))
 
   found : (i : ℕ) → i < size t → foundIn b (lineAt b i .name .identity) ≡ At i
   found i k =
       let ys = identities (preorder f) in
-      let n : length ys ≡ size t = ids-length (preorder f) ∙ length-preorder f ∙ sym (size-image nameOf f) in
+      let n : length ys ≡ size t = ids-length (preorder f) ∙ length-preorder f ∙ sym (size-image names f) in
       let e : getD ys i 0 ≡ lineAt b i .name .identity =
       List·getD-map (λ (u : Entry Name). u .name .identity) (preorder f) i nothing ∙ ap (λ (u : Entry Name). u .name .identity)
       (sym (line i k)) in
@@ -207,6 +204,6 @@ module _ (b : List ℕ) (f : Forest (Entry Name)) (h : Holds b f) where
         depth = rw n (
           depthIn (lineAt b i) (linesOf b),
           sym (depth-found b x sound (At i) (sym (found i k))),
-          depth-image nameOf f (depthIn (lineAt b i) (linesOf b)) (lineAt b i) (depth-held b f h (lineAt b i) (present i k)),
+          depth-image names f (depthIn (lineAt b i) (linesOf b)) (lineAt b i) (depth-held b f h (lineAt b i) (present i k)),
         );
       }

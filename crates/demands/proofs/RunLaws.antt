@@ -13,7 +13,7 @@ use Rattle.answers.specs.declared.Answer.the-variants.{Accepted, Refused}
 use Rattle.codes.specs.Field.{fieldOf}
 use Rattle.trees.specs.Lists.{Member}
 use Rattle.trees.specs.Forest.{Forest, size, preorder}
-use Rattle.trees.specs.Labelled.{Name, Entry, plain, Sound}
+use Rattle.trees.specs.Labelled.{Name, Entry, plain, Sound, names}
 use Rattle.trees.specs.Edit.{Spot, leaf, put, ahead, behind, spotOf, without}
 use Rattle.trees.specs.Neighbours.{newEntry, insertedEntry}
 use Rattle.trees.proofs.ListLaws.{map-twice, member-left, member-right, member-append}
@@ -29,7 +29,7 @@ use Rattle.registers.specs.Sound.{labelBytes, lineAt}
 use Rattle.registers.specs.Questions.{countOf, foundFrom, foundIn}
 use Rattle.registers.proofs.SoundLaws.{has-place}
 use Rattle.registers.proofs.BytesLaws.{label-parts}
-use Rattle.registers.proofs.QuestionLaws.{sized→, sized-entries, parts-of, labels-sound}
+use Rattle.registers.proofs.QuestionLaws.{sized-entries, labels-sound, sized-of}
 use Rattle.registers.proofs.HoldsLaws.{lines-held, holds-sound}
 use Rattle.edits.specs.declared.Edit.{Edit}
 use Rattle.edits.specs.declared.Edit.the-variants.{Insert, Delete}
@@ -38,7 +38,7 @@ use Rattle.edits.specs.Edits.{whereOf, targetOf, applyOutcome}
 use Rattle.edits.proofs.HoldsLaws.{insert-accepted, delete-accepted, apply-keeps}
 use Rattle.demands.specs.Run.{numberIn, changedAt, changed, answered, run, treeAfter, insertion, insertions}
 use Rattle.demands.specs.Demands.{LabelsStay}
-use Rattle.demands.proofs.RightLaws.{nameOf, count-tree, name-at, present}
+use Rattle.demands.proofs.RightLaws.{count-tree, name-at, present}
 
 -- the buffer holds a labelled tree whose plain tree is t and whose codes have at most m digits
 pub record State (b : List ℕ) (t : Forest Name) (m : ℕ) : Type 0 where
@@ -50,8 +50,8 @@ pub record State (b : List ℕ) (t : Forest Name) (m : ℕ) : Type 0 where
 -- an identity has one number, in the buffer and in the plain tree
 number-found : (b : List ℕ) (f : Forest (Entry Name)) (x : ℕ) → Holds b f → numberIn x (plain f) ≡ foundIn b x
 number-found b f x h =
-    ap (λ (ns : List Name). foundFrom 0 x (map (λ (n : Name). n .identity) ns)) (preorder-image nameOf f)
-    ∙ ap (foundFrom 0 x) (map-twice nameOf (λ (n : Name). n .identity) (preorder f)) ∙ ap (λ us. foundFrom 0 x (identities us))
+    ap (λ (ns : List Name). foundFrom 0 x (map (λ (n : Name). n .identity) ns)) (preorder-image names f)
+    ∙ ap (foundFrom 0 x) (map-twice names (λ (n : Name). n .identity) (preorder f)) ∙ ap (λ us. foundFrom 0 x (identities us))
     (sym (lines-held b f h))
 
 -- the plain tree of the labelled tree after an edit is that of the plain edit
@@ -61,12 +61,12 @@ module _ (b : List ℕ) (f : Forest (Entry Name)) (h : Holds b f) where
       ≡ changed (Insert place identity tag) (plain f)
   inserted-plain place identity tag i e =
       let x : Name = record { identity = identity; tag = tag } in
-      inserted-image nameOf (whereOf place) i (newEntry x f (spotOf (whereOf place) i f)) f
+      inserted-image names (whereOf place) i (newEntry x f (spotOf (whereOf place) i f)) f
       ∙ ap (λ (z : Found). changedAt z (Insert place identity tag) (plain f)) (sym (number-found b f (targetOf place) h ∙ e))
 
   deleted-plain : (target i : ℕ) → foundIn b target ≡ At i → plain (without i f) ≡ changed (Delete target) (plain f)
   deleted-plain target i e =
-      without-image nameOf i f
+      without-image names i f
       ∙ ap (λ (z : Found). changedAt z (Delete target) (plain f)) (sym (number-found b f target h ∙ e))
 
 -- an accepted edit: the codes of an insertion are longer by a digit at most
@@ -141,7 +141,7 @@ same-label b c f g h k i j p q e =
     parts d t y n l =
         let s = holds-sound d t y in
         let z : n < countOf d = omega (arith, count-tree d t y) in
-        label-parts d n (has-place d (countOf d) n (sized-entries d (sized→ d (parts-of d s .sized))) z) (labels-sound d n s z)
+        label-parts d n (has-place d (countOf d) n (sized-entries d (sized-of d s)) z) (labels-sound d n s z)
 
 -- all entries of one tree are entries of the other
 abbrev Included : Forest (Entry Name) → Forest (Entry Name) → Type 0

@@ -31,11 +31,10 @@ use Rattle.registers.specs.Sound.{lineAt, CodeAt, SideAt}
 use Rattle.registers.specs.Questions.{countOf, linesOf, registerSound?, depthIn, treeIn}
 use Rattle.registers.proofs.SoundLaws.{side-held}
 use Rattle.registers.proofs.RowLaws.{lines-length}
-use Rattle.registers.proofs.QuestionLaws.{line-at}
+use Rattle.registers.proofs.QuestionLaws.{line-at, codes-at, start-of, end-of, parent-of}
 use Rattle.registers.proofs.AnswerLaws.{rows-lines, Stands, tree-stands}
 use Rattle.edits.specs.Search.{ownPlace, parentFrom}
 use Rattle.edits.specs.Edits.{parented?}
-use Rattle.edits.proofs.SearchLaws.{codes-at, start-of, end-of, parent-of}
 
 module _ (b : List ℕ) (e : registerSound? b ≡ true) where
   abbrev f : Forest (Entry Name)

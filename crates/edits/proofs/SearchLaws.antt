@@ -9,31 +9,13 @@ use native.Mathlib.Omega.{arith}
 use Rattle.digits.specs.Order.{Digits, below?}
 use Rattle.trees.specs.Labelled.{Name, Entry}
 use Rattle.trees.specs.Search.{toward?, closer, outermost, nearest, leading}
-use Rattle.registers.specs.Layout.{startPlace, endPlace, parentPlace}
+use Rattle.registers.specs.Layout.{startPlace, endPlace}
 use Rattle.registers.specs.Entries.{codeAt}
 use Rattle.registers.specs.Sound.{lineAt, linesFrom, CodeAt}
 use Rattle.registers.specs.Questions.{countOf, linesOf, registerSound?}
 use Rattle.edits.specs.Search.{outerPlace}
-use Rattle.registers.proofs.SoundLaws.{SoundAt, sound-at, has-place}
-use Rattle.registers.proofs.RowLaws.{lines-next, line-start, line-end, line-parent}
-use Rattle.registers.proofs.QuestionLaws.{Sized, sized→, sized-entries, parts-of, labels-sound}
-
--- what a sound register says of its size and of line i
-pub sized-of : (b : List ℕ) → registerSound? b ≡ true → Sized b
-sized-of b e = sized→ b (parts-of b e .sized)
-
-module _ (b : List ℕ) (e : registerSound? b ≡ true) (i : ℕ) (h : i < countOf b) where
-  pub codes-at : SoundAt b i
-  codes-at = sound-at b i (has-place b (countOf b) i (sized-entries b (sized-of b e)) h) (labels-sound b i e h)
-
-  pub start-of : lineAt b i .start ≡ codeAt b (startPlace i)
-  start-of = line-start b i (labels-sound b i e h)
-
-  pub end-of : lineAt b i .end ≡ codeAt b (endPlace i)
-  end-of = line-end b i (labels-sound b i e h)
-
-  pub parent-of : lineAt b i .parent ≡ codeAt b (parentPlace i)
-  parent-of = line-parent b i (labels-sound b i e h)
+use Rattle.registers.proofs.RowLaws.{lines-next}
+use Rattle.registers.proofs.QuestionLaws.{sized-of, codes-at, start-of, end-of}
 
 -- where the search begins
 module _ (b : List ℕ) (e : registerSound? b ≡ true) where

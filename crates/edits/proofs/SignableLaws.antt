@@ -15,11 +15,10 @@ use Rattle.trees.specs.Neighbours.{newEntry}
 use Rattle.trees.proofs.ForestLaws.{length-preorder}
 use Rattle.trees.proofs.EditLaws.{order-spot}
 use Rattle.registers.specs.Questions.{registerSound?, treeIn}
-use Rattle.registers.proofs.QuestionLaws.{found-inside}
+use Rattle.registers.proofs.QuestionLaws.{found-inside, sized-of}
 use Rattle.edits.specs.declared.Edit.{Edit}
 use Rattle.edits.specs.declared.Edit.the-variants.{Insert, Delete}
 use Rattle.edits.specs.Edits.{whereOf, targetOf, spotIn, fits?, putOutcome, applyOutcome}
-use Rattle.edits.proofs.SearchLaws.{sized-of}
 use Rattle.edits.proofs.PlaceLaws.{tree-size}
 use Rattle.edits.proofs.OutcomeLaws.{insert-cases, delete-cases}
 

@@ -29,13 +29,13 @@ use Rattle.trees.specs.Labelled.{Name, Entry}
 use Rattle.registers.specs.declared.Found.{Found}
 use Rattle.registers.specs.declared.Found.the-variants.{At, Nothing}
 use Rattle.trees.proofs.SearchLaws.{starts-all}
-use Rattle.registers.specs.Layout.{mostEntries, zeroAt, headerSize, entryPlace, identityAt, startPlace, endPlace}
+use Rattle.registers.specs.Layout.{mostEntries, zeroAt, headerSize, entryPlace, identityAt, startPlace, endPlace, parentPlace}
 use Rattle.registers.specs.Entries.{entryAt, codeAt}
 use Rattle.registers.specs.Holds.{identities}
 use Rattle.registers.specs.Sound.{soundLabel?, soundLabels?, lineAt, linesFrom, tree?, HasEntries}
 use Rattle.registers.specs.Questions.{countOf, linesOf, sized?, registerSound?, foundFrom, foundIn, aboveEntry?, depthIn, placeAs, placeAnswer, depthAs, depthAnswer, distanceAs, distanceAnswer}
-use Rattle.registers.proofs.SoundLaws.{labels-all}
-use Rattle.registers.proofs.RowLaws.{line-start, line-end, lines-length, lines-next}
+use Rattle.registers.proofs.SoundLaws.{SoundAt, sound-at, has-place, labels-all}
+use Rattle.registers.proofs.RowLaws.{line-start, line-end, line-parent, lines-length, lines-next}
 use Rattle.registers.proofs.BytesLaws.{coded-sound}
 use Rattle.registers.proofs.TreeLaws.{tree-lined}
 
@@ -165,6 +165,23 @@ tree-sound b n i e h =
 
 pub labels-sound : (b : List ℕ) (i : ℕ) → registerSound? b ≡ true → i < countOf b → soundLabel? b i ≡ true
 labels-sound b i e h = tree-sound b (countOf b) i (parts-of b e .tree) h
+
+-- what a sound register says of its size and of line i
+pub sized-of : (b : List ℕ) → registerSound? b ≡ true → Sized b
+sized-of b e = sized→ b (parts-of b e .sized)
+
+module _ (b : List ℕ) (e : registerSound? b ≡ true) (i : ℕ) (h : i < countOf b) where
+  pub codes-at : SoundAt b i
+  codes-at = sound-at b i (has-place b (countOf b) i (sized-entries b (sized-of b e)) h) (labels-sound b i e h)
+
+  pub start-of : lineAt b i .start ≡ codeAt b (startPlace i)
+  start-of = line-start b i (labels-sound b i e h)
+
+  pub end-of : lineAt b i .end ≡ codeAt b (endPlace i)
+  end-of = line-end b i (labels-sound b i e h)
+
+  pub parent-of : lineAt b i .parent ≡ codeAt b (parentPlace i)
+  parent-of = line-parent b i (labels-sound b i e h)
 
 -- lines whose labels are not all sound are no tree's
 pub unsound-tree : (b : List ℕ) (n : ℕ) → soundLabels? b n ≡ false → false ≡ tree? b n
@@ -338,5 +355,5 @@ place-signable b x = go (registerSound? b) refl (foundIn b x) refl
   where
     go : (t : Bool) → registerSound? b ≡ t → (f : Found) → foundIn b x ≡ f → Signable (cond t (placeAs f) (Refused Register))
     go false e f g = tt
-    go true e (At i) g = omega (arith, found-inside b x i g, sized→ b (parts-of b e .sized) .most)
+    go true e (At i) g = omega (arith, found-inside b x i g, sized-of b e .most)
     go true e Nothing g = tt

@@ -18,7 +18,7 @@ use Rattle.numbers.proofs.PutLaws.{put-run}
 use Rattle.codes.specs.Code.{IsCode}
 use Rattle.trees.specs.Forest.{preorder, Rooted}
 use Rattle.trees.specs.Table.{Ruled, forest}
-use Rattle.trees.specs.Labelled.{Name, Entry, plain, codes, labelled}
+use Rattle.trees.specs.Labelled.{Name, plain, codes, labelled, names}
 use Rattle.trees.proofs.ListLaws.{map-twice}
 use Rattle.trees.proofs.ImageLaws.{preorder-image}
 use Rattle.trees.proofs.TableLaws.{preorder-rows, ruled-height}
@@ -41,9 +41,6 @@ use Rattle.tables.proofs.LabelLaws.{count-most, tree-size, tree-codes, 
 
 abbrev identity : Name → ℕ
 identity n = n .identity
-
-abbrev names : Entry Name → Name
-names u = u .name
 
 some-root : (t : List (Name × ℕ)) → 1 ≤ length t → Ruled deepest t → Rooted (labelled (forest t))
 some-root [] s h = absurd (omega arith)

@@ -17,7 +17,7 @@ use Rattle.digits.proofs.CountLaws.{no-better}
 use Rattle.trees.specs.Forest.{Forest, nil, node, size, preorder, Rooted, Height}
 use Rattle.trees.specs.Table.{Ruled, forest}
 use Rattle.trees.specs.Tour.{tour, Rises, Parents}
-use Rattle.trees.specs.Labelled.{Entry, starts, ends, parents, plain, codes, fill, labelled, Sound, Tree}
+use Rattle.trees.specs.Labelled.{starts, ends, parents, plain, codes, fill, labelled, Sound, Tree, names}
 use Rattle.trees.proofs.ListLaws.{pairs-distinct}
 use Rattle.trees.proofs.ImageLaws.{size-image, height-image, rooted-image}
 use Rattle.trees.proofs.TableLaws.{length-rows, ruled-rows, ruled-forest, ruled-height}
@@ -31,9 +31,6 @@ cut-take n m xs h =
     rw (take-add n (suc m) xs, drop-cons xs n [])
 
 module _ {A : Type 0} where
-  abbrev names : Entry A → A
-  names u = u .name
-
   -- whatever the codes, the tree is the one labelled, and each parent start the parent's start
   plain-fill : (p : Digits) (f : Forest A) (xs : List Digits) → plain (fill p f xs) ≡ f
   plain-fill p nil xs = refl

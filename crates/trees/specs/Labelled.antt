@@ -24,7 +24,10 @@ pub record Entry (A : Type 0) : Type 0 where
   pub parent : Digits
 
 module _ {A : Type 0} where
-  -- the three codes of an entry's label
+  -- the name of an entry, and the three codes of its label
+  abbrev pub names : Entry A → A
+  names u = u .name
+
   abbrev pub starts : Entry A → Digits
   starts u = u .start
 
@@ -36,7 +39,7 @@ module _ {A : Type 0} where
 
   -- the tree without its labels
   abbrev pub plain : Forest (Entry A) → Forest A
-  plain f = image (λ (u : Entry A). u .name) f
+  plain f = image names f
 
   -- the codes along the tour
   abbrev pub codes : Forest (Entry A) → List Digits

@@ -2,8 +2,7 @@
 use mathlib.Core.Path.{sym, ap, _∙_}
 use Prim.Native.Nat.{ℕ, _+_}
 use native.Mathlib.Omega.{arith}
-use Rattle.registers.proofs.QuestionLaws.{depth-bound}
-use Rattle.edits.proofs.SearchLaws.{sized-of}
+use Rattle.registers.proofs.QuestionLaws.{depth-bound, sized-of}
 use Rattle.edits.proofs.PlaceLaws.{level-inside, level-beside}
 use borrow.Author.Needs.{needs}
 use Rattle.edits.proofs.level.Statement.{statement}

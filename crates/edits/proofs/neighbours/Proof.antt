@@ -4,8 +4,8 @@ use mathlib.Core.Bool.{true, false}
 use native.Mathlib.Omega.{arith}
 use Rattle.registers.specs.Entries.{codeAt}
 use Rattle.registers.specs.Sound.{CodeAt}
+use Rattle.registers.proofs.QuestionLaws.{sized-of}
 use Rattle.edits.specs.Edits.{whereOf}
-use Rattle.edits.proofs.SearchLaws.{sized-of}
 use Rattle.edits.proofs.PlaceLaws.{own-at, own-side, other-side}
 use borrow.Author.Needs.{needs}
 use Rattle.edits.proofs.neighbours.Statement.{statement}

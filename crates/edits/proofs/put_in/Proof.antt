@@ -13,10 +13,9 @@ use Rattle.trees.specs.Edit.{spotOf}
 use Rattle.trees.specs.Neighbours.{leftOf, rightOf}
 use Rattle.trees.specs.Search.{leading}
 use Rattle.registers.specs.Questions.{linesOf, treeIn}
-use Rattle.registers.proofs.QuestionLaws.{parts-of}
+use Rattle.registers.proofs.QuestionLaws.{parts-of, sized-of}
 use Rattle.edits.specs.Edits.{whereOf}
 use Rattle.edits.proofs.SpliceLaws.{same-inserted}
-use Rattle.edits.proofs.SearchLaws.{sized-of}
 use Rattle.edits.proofs.PlaceLaws.{found-place, parent-found, new-codes, held-step, held-code}
 use Rattle.edits.proofs.OutcomeLaws.{put-long, put-long-end, put-done}
 use borrow.Author.Needs.{needs}

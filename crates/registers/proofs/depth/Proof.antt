@@ -7,7 +7,7 @@ use mir.Facts.{toZ-pos}
 use borrow.Author.Tests.{not-true, not-false}
 use Rattle.answers.proofs.SignedLaws.{read-back}
 use Rattle.registers.specs.Questions.{depthAs}
-use Rattle.registers.proofs.QuestionLaws.{sized→, parts-of, found-inside, depth-bound, depth-unsound, depth-found}
+use Rattle.registers.proofs.QuestionLaws.{parts-of, found-inside, depth-bound, depth-unsound, depth-found, sized-of}
 use borrow.Author.Needs.{needs}
 use Rattle.registers.proofs.depth.Statement.{statement}
 use Rattle.registers.proofs.depth.Tie as tie
@@ -54,9 +54,9 @@ depth-at-requires c κs =
 cast-result : tie.Need-cast-result
 cast-result c =
     let a = c .before .before .before .before .before .before .before .before .args in
-    let s = sized→ (a .register .now) (parts-of (a .register .now) (sym
+    let s = sized-of (a .register .now) (sym
     (c .before .before .before .before .before .before .sound .ensures) ∙ not-false _
-    (c .before .before .before .before .before .if1 .left)) .sized) in
+    (c .before .before .before .before .before .if1 .left)) in
     record {
       sfits = omega (
         arith,
@@ -70,9 +70,9 @@ cast-result c =
 returns-3 : tie.Need-returns-3
 returns-3 c =
     let a = c .before .before .before .before .before .before .before .before .args in
-    let s = sized→ (a .register .now) (parts-of (a .register .now) (sym
+    let s = sized-of (a .register .now) (sym
     (c .before .before .before .before .before .before .sound .ensures) ∙ not-false _
-    (c .before .before .before .before .before .if1 .left)) .sized) in
+    (c .before .before .before .before .before .if1 .left)) in
     toZ-pos w32 (omega (arith, c .depth-at .ensures, depth-bound (a .register .now) (c .before .before .place .given .0 .0), s .most)) ∙
     ap pos (c .depth-at .ensures)
     ∙ ap (depthAs (a .register .now)) (sym (c .before .before .place .given .1))

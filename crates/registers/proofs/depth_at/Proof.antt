@@ -6,7 +6,7 @@ use borrow.Author.Needs.{needs}
 use Rattle.registers.specs.Sound.{lineAt}
 use Rattle.registers.specs.Questions.{countOf, linesOf, depthIn}
 use Rattle.registers.proofs.SoundLaws.{has-place}
-use Rattle.registers.proofs.QuestionLaws.{sized→, sized-entries, parts-of, labels-sound, depthFrom, depth-all, depth-next, depth-none}
+use Rattle.registers.proofs.QuestionLaws.{sized-entries, labels-sound, depthFrom, depth-all, depth-next, depth-none, sized-of}
 use Rattle.registers.proofs.depth_at.Statement.{statement}
 use Rattle.registers.proofs.depth_at.Tie as tie
 
@@ -22,7 +22,7 @@ abbrev μ-loop : tie.MeasureT-loop
 count-requires : tie.Need-count-requires Inv-loop μ-loop
 count-requires c κs =
     let a = c .before in
-    sized→ (a .args .register .now) (parts-of (a .args .register .now) (a .pre .0) .sized) .header
+    sized-of (a .args .register .now) (a .pre .0) .header
 
 loop-holds : tie.Need-loop-holds Inv-loop μ-loop
 loop-holds c =
@@ -34,7 +34,7 @@ above-requires c κs =
     let l = c .before in
     let a = l .before .before .before in
     let b = a .args .register .now in
-    let e = sized-entries b (sized→ (a .args .register .now) (parts-of (a .args .register .now) (a .pre .0) .sized)) in (
+    let e = sized-entries b (sized-of (a .args .register .now) (a .pre .0)) in (
       (has-place b (countOf b) (l .loop .i) e (omega (arith, l .loop .inv .1)), has-place b (countOf b) (a .args .place) e (a .pre .1)),
       (labels-sound b (l .loop .i) (a .pre .0) (omega (arith, l .loop .inv .1)), labels-sound b (a .args .place) (a .pre .0) (a .pre .1)),
     )

@@ -7,7 +7,7 @@ use borrow.Author.Tests.{not-true, not-false}
 use Rattle.answers.proofs.SignedLaws.{read-back}
 use Rattle.registers.specs.declared.Found.the-variants.{At}
 use Rattle.registers.specs.Questions.{distanceAs}
-use Rattle.registers.proofs.QuestionLaws.{sized→, parts-of, found-inside, difference-fits, difference-is, distance-unsound, distance-found, distance-none}
+use Rattle.registers.proofs.QuestionLaws.{parts-of, found-inside, difference-fits, difference-is, distance-unsound, distance-found, distance-none, sized-of}
 use borrow.Author.Needs.{needs}
 use Rattle.registers.proofs.distance.Statement.{statement}
 use Rattle.registers.proofs.distance.Tie as tie
@@ -72,8 +72,8 @@ cast-result : tie.Need-cast-result
 cast-result c =
     let a = c .before .before .before .before .before .before .before .before .before .before .before .args in
     let b = a .register .now in
-    let s = sized→ b (parts-of b (sym (c .before .before .before .before .before .before .before .before .before .sound .ensures) ∙
-    not-false _ (c .before .before .before .before .before .before .before .before .if1 .left)) .sized) in
+    let s = sized-of b (sym (c .before .before .before .before .before .before .before .before .before .sound .ensures) ∙
+    not-false _ (c .before .before .before .before .before .before .before .before .if1 .left)) in
     let i : c .before .before .before .before .before .from .given .0 .0 < 4096 = omega (
       arith,
       found-inside b (a .x) _ (sym (c .before .before .before .before .before .before .before .find .ensures) ∙ c .before
@@ -88,8 +88,8 @@ cast-result-2 : tie.Need-cast-result-2
 cast-result-2 c =
     let a = c .before .before .before .before .before .before .before .before .before .before .before .args in
     let b = a .register .now in
-    let s = sized→ b (parts-of b (sym (c .before .before .before .before .before .before .before .before .before .sound .ensures) ∙
-    not-false _ (c .before .before .before .before .before .before .before .before .if1 .left)) .sized) in
+    let s = sized-of b (sym (c .before .before .before .before .before .before .before .before .before .sound .ensures) ∙
+    not-false _ (c .before .before .before .before .before .before .before .before .if1 .left)) in
     let i : c .before .before .before .before .before .from .given .0 .0 < 4096 = omega (
       arith,
       found-inside b (a .x) _ (sym (c .before .before .before .before .before .before .before .find .ensures) ∙ c .before
@@ -104,8 +104,8 @@ sub-result : tie.Need-sub-result
 sub-result c =
     let a = c .before .before .before .before .before .before .before .before .before .before .before .args in
     let b = a .register .now in
-    let s = sized→ b (parts-of b (sym (c .before .before .before .before .before .before .before .before .before .sound .ensures) ∙
-    not-false _ (c .before .before .before .before .before .before .before .before .if1 .left)) .sized) in
+    let s = sized-of b (sym (c .before .before .before .before .before .before .before .before .before .sound .ensures) ∙
+    not-false _ (c .before .before .before .before .before .before .before .before .if1 .left)) in
     let i : c .before .before .before .before .before .from .given .0 .0 < 4096 = omega (
       arith,
       found-inside b (a .x) _ (sym (c .before .before .before .before .before .before .before .find .ensures) ∙ c .before
@@ -120,8 +120,8 @@ returns-4 : tie.Need-returns-4
 returns-4 c =
     let a = c .before .before .before .before .before .before .before .before .before .before .before .args in
     let b = a .register .now in
-    let s = sized→ b (parts-of b (sym (c .before .before .before .before .before .before .before .before .before .sound .ensures) ∙
-    not-false _ (c .before .before .before .before .before .before .before .before .if1 .left)) .sized) in
+    let s = sized-of b (sym (c .before .before .before .before .before .before .before .before .before .sound .ensures) ∙
+    not-false _ (c .before .before .before .before .before .before .before .before .if1 .left)) in
     let i : c .before .before .before .before .before .from .given .0 .0 < 4096 = omega (
       arith,
       found-inside b (a .x) _ (sym (c .before .before .before .before .before .before .before .find .ensures) ∙ c .before

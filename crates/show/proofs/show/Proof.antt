@@ -2,7 +2,7 @@
 use mathlib.Core.Path.{sym, _∙_}
 use native.Mathlib.Omega.{arith}
 use borrow.Author.Tests.{not-false}
-use Rattle.registers.proofs.QuestionLaws.{sized→, parts-of}
+use Rattle.registers.proofs.QuestionLaws.{sized-of}
 use borrow.Author.Needs.{needs}
 use Rattle.show.proofs.show.Statement.{statement}
 use Rattle.show.proofs.show.Tie as tie
@@ -25,12 +25,12 @@ returns-2 c = search needs
 count-requires : tie.Need-count-requires
 count-requires c κs =
     let b = c .before .before .before .before .args .register .now in
-    sized→ b (parts-of b (sym (c .before .sound .ensures) ∙ not-false _ (c .if2 .left)) .sized) .header
+    sized-of b (sym (c .before .sound .ensures) ∙ not-false _ (c .if2 .left)) .header
 
 lines-requires : tie.Need-lines-requires
 lines-requires c κs =
     let b = c .before .before .before .before .before .args .register .now in
-    let s = sized→ b (parts-of b (sym (c .before .before .sound .ensures) ∙ not-false _ (c .before .if2 .left)) .sized) in
+    let s = sized-of b (sym (c .before .before .sound .ensures) ∙ not-false _ (c .before .if2 .left)) in
     omega (arith, c .count .ensures, s .room)
 
 returns-3 : tie.Need-returns-3

@@ -7,7 +7,7 @@ use Rattle.trees.specs.Search.{leading}
 use Rattle.registers.specs.Entries.{codeAt}
 use Rattle.registers.specs.Sound.{CodeAt}
 use Rattle.registers.specs.Questions.{linesOf}
-use Rattle.edits.proofs.SearchLaws.{sized-of, codes-at}
+use Rattle.registers.proofs.QuestionLaws.{sized-of, codes-at}
 use Rattle.edits.proofs.PlaceLaws.{leaf-is}
 use Rattle.edits.proofs.search.leaf.Statement.{statement}
 use Rattle.edits.proofs.search.leaf.Tie as tie

@@ -7,7 +7,8 @@ use Rattle.trees.specs.Search.{closer, outermost, nearest}
 use Rattle.registers.specs.Entries.{codeAt}
 use Rattle.registers.specs.Sound.{lineAt, CodeAt}
 use Rattle.registers.specs.Questions.{countOf, linesOf}
-use Rattle.edits.proofs.SearchLaws.{sized-of, codes-at, outer-code, outer-is, nearestFrom, nearest-all, nearest-next, nearest-none}
+use Rattle.registers.proofs.QuestionLaws.{sized-of, codes-at}
+use Rattle.edits.proofs.SearchLaws.{outer-code, outer-is, nearestFrom, nearest-all, nearest-next, nearest-none}
 use Rattle.edits.proofs.search.nearest.Statement.{statement}
 use Rattle.edits.proofs.search.nearest.Tie as tie
 

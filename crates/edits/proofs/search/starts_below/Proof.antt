@@ -8,7 +8,8 @@ use Rattle.trees.specs.Search.{leading}
 use Rattle.registers.specs.Entries.{codeAt}
 use Rattle.registers.specs.Sound.{CodeAt}
 use Rattle.registers.specs.Questions.{countOf, linesOf}
-use Rattle.edits.proofs.SearchLaws.{sized-of, codes-at, leadingFrom, leading-all, leading-next, leading-stop, leading-none}
+use Rattle.registers.proofs.QuestionLaws.{sized-of, codes-at}
+use Rattle.edits.proofs.SearchLaws.{leadingFrom, leading-all, leading-next, leading-stop, leading-none}
 use Rattle.edits.proofs.search.starts_below.Statement.{statement}
 use Rattle.edits.proofs.search.starts_below.Tie as tie
 
