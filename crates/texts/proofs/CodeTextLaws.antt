@@ -1,7 +1,7 @@
 -- Laws of a code's text: what unpacking a field leaves, what is printed of it, and how many bytes that has. Assumes nothing.
 use mathlib.Core.Path.{_≡_, refl, sym, ap, _∙_}
 use mathlib.Core.List.{List, [], _∷_, _++_, map}
-use Prim.Native.Nat.{ℕ, zero, suc, _+_, _≤_, _<_}
+use Prim.Native.Nat.{ℕ, _+_, _≤_, _<_}
 use native.Mathlib.Numerals.{add-one}
 use native.Mathlib.Omega.{arith}
 use lib.ListN.{length, take, getD, set, length-map}
@@ -105,8 +105,3 @@ digit-turn out at x j fits h =
     let e : map digitByte (take (j + 1) x) ≡ front ++ (digitByte (getD x j 0) ∷ []) =
     ap (λ (y : List ℕ). map digitByte y) (ap (λ (n : ℕ). take n x) (add-one j) ∙ take-suc x j 0 h) ∙ map-append digitByte (take j x) _ in
     rw e (rw l at (put-snoc out at front (digitByte (getD x j 0)) (omega arith)))
-
-pub all-at : (x : List ℕ) → All (λ d. d < 4) x → (j : ℕ) → getD x j 0 < 4
-all-at [] t j = omega arith
-all-at (d ∷ x) t zero = t .0
-all-at (d ∷ x) t (suc j) = all-at x (t .1) j

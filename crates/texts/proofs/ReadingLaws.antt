@@ -1,10 +1,9 @@
 -- Laws of reading. Assumes nothing.
-use mathlib.Core.Path.{_≡_, refl}
-use mathlib.Core.Bool.{Bool, true, false, _&&_}
+use mathlib.Core.Path.{_≡_}
+use mathlib.Core.Bool.{true, false, _&&_, and-eq-true-iff}
 use mathlib.Core.List.{List}
 use Prim.Native.Nat.{ℕ, _+_, _-_, _≤_, _<_}
 use native.Mathlib.Numerals.{add-one}
-use native.Mathlib.Omega.{arith}
 use lib.Dec.{ltb, leb}
 use lib.ListN.{length, drop, getD, drop-of-length-le}
 use lib.Seq.{drop-cons}
@@ -25,18 +24,10 @@ pub record Byte (b : ℕ) : Type 0 where
   pub low : 48 ≤ b
   pub high : b ≤ 57
 
-and-left : (p q : Bool) → p && q ≡ true → p ≡ true
-and-left true q e = refl
-and-left false q e = e
-
-and-right : (p q : Bool) → p && q ≡ true → q ≡ true
-and-right true q e = e
-and-right false q e = let z : _≡_ {A = ℕ} 0 1 = cc in absurd (omega arith)
-
 pub byte-digit : (b : ℕ) → digit? b ≡ true → Byte b
 byte-digit b e = record {
-  low = leb-true 48 b (and-left (leb 48 b) (leb b 57) e);
-  high = leb-true b 57 (and-right (leb 48 b) (leb b 57) e);
+  low = leb-true 48 b (and-eq-true-iff (leb 48 b) (leb b 57) .0 e .0);
+  high = leb-true b 57 (and-eq-true-iff (leb 48 b) (leb b 57) .0 e .1);
 }
 
 -- what may follow a number
@@ -47,15 +38,15 @@ pub record Follows (x b : ℕ) : Type 0 where
 
 pub follows→ : (x b : ℕ) → follows? x b ≡ true → Follows x b
 follows→ x b e =
-    let r : ltb 0 x && ltb (longer x b) numberLimit ≡ true = and-right (digit? b) _ e in
+    let r : ltb 0 x && ltb (longer x b) numberLimit ≡ true = and-eq-true-iff (digit? b) _ .0 e .1 in
     record {
-      byte = byte-digit b (and-left (digit? b) _ e);
-      some = ltb-true 0 x (and-left (ltb 0 x) _ r);
-      fits = ltb-true (longer x b) numberLimit (and-right (ltb 0 x) _ r);
+      byte = byte-digit b (and-eq-true-iff (digit? b) _ .0 e .0);
+      some = ltb-true 0 x (and-eq-true-iff (ltb 0 x) _ .0 r .0);
+      fits = ltb-true (longer x b) numberLimit (and-eq-true-iff (ltb 0 x) _ .0 r .1);
     }
 
 pub digit-follows : (x b : ℕ) → follows? x b ≡ true → digit? b ≡ true
-digit-follows x b e = and-left (digit? b) _ e
+digit-follows x b e = and-eq-true-iff (digit? b) _ .0 e .0
 
 pub →follows : (x b : ℕ) → Follows x b → follows? x b ≡ true
 →follows x b f = rw (digit-byte b (f .byte .low) (f .byte .high), lt-ltb 0 x (f .some), lt-ltb (longer x b) numberLimit (f .fits))

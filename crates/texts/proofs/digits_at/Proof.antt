@@ -1,14 +1,15 @@
 -- `digits_at` meets its contract. The loop's invariant: the first j digits stand in their place. Assumes nothing.
 use mathlib.Core.Path.{_≡_, refl, sym}
 use mathlib.Core.List.{map}
-use Prim.Native.Nat.{_-_, _≤_}
+use Prim.Native.Nat.{_-_, _≤_, _<_}
 use native.Mathlib.Omega.{arith}
 use lib.ListN.{length, take, length-set}
 use lib.Seq.{take-length}
 use Rattle.numbers.specs.Bytes.{put}
 use Rattle.numbers.proofs.PutLaws.{put-nil}
 use Rattle.texts.specs.Printed.{digitByte}
-use Rattle.texts.proofs.CodeTextLaws.{digit-turn, all-at}
+use Rattle.digits.proofs.ListLaws.{all-at}
+use Rattle.texts.proofs.CodeTextLaws.{digit-turn}
 use Rattle.texts.proofs.digits_at.Statement.{statement}
 use Rattle.texts.proofs.digits_at.Tie as tie
 
@@ -27,7 +28,7 @@ shared-slice-read-out c = omega arith
 add-out : tie.Need-add-out Inv-loop μ-loop
 add-out c =
     let b = c .before .before in
-    omega (arith, all-at (b .before .args .digits .now) (b .before .pre .1) (b .loop .j))
+    omega (arith, all-at (λ d. d < 4) (b .before .args .digits .now) (b .loop .j) 0 (b .before .pre .1) (omega arith))
 
 add-out-2 : tie.Need-add-out-2 Inv-loop μ-loop
 add-out-2 c = omega arith
