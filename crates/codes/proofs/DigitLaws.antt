@@ -202,7 +202,8 @@ ended-blanks zero v h =
     let z : v ≡ 0 = omega arith in
     rw z refl
 ended-blanks (suc n) v h =
-    go (eqb (v % 4) 0) refl (ended-blanks n (v / 4) (rest-lt n v h)) (ends-here v (blanks n (v / 4)) (full n (v / 4)) (blanks-full n (v / 4)))
+    go (eqb (v % 4) 0) refl (ended-blanks n (v / 4) (rest-lt n v h))
+    (ends-here v (blanks n (v / 4)) (full n (v / 4)) (blanks-full n (v / 4)))
   where
     go : (s : Bool) → eqb (v % 4) 0 ≡ s → ends? (v / 4) (blanks n (v / 4)) ≡ ended n (v / 4)
         → ends? v (blanks n (v / 4) * 4 + 0) ≡ leb 2 (v % 4) && full n (v / 4)

@@ -93,7 +93,8 @@ demand-2 table lent n a edits =
 pub demand-2-on : FromRegister
 demand-2-on b y e edits =
     let h = sound-holds b y e in
-    let s : State b (plain (h .tree)) longest = record { tree = h .tree; holds = h .holds; named = refl; bounded = h .holds .whole .sound } in
+    let s : State b (plain (h .tree)) longest =
+    record { tree = h .tree; holds = h .holds; named = refl; bounded = h .holds .whole .sound } in
     after-run b (plain (treeIn b)) (subst (λ f. State b (plain f) longest) (sym (tree-held b (h .tree) (h .holds))) s) edits
 
 -- not a program that labels by other thirds

@@ -1,4 +1,5 @@
--- An instance of demands 2 and 3 by computation: the worked register, an insertion at each of the four places, a deletion, two refused edits.
+-- An instance of demands 2 and 3 by computation: the worked register, an insertion at each of the four places, a deletion, two
+-- refused edits.
 -- Assumes nothing.
 use mathlib.Core.Path.{_≡_, refl}
 use mathlib.Core.List.{List, [], _∷_}

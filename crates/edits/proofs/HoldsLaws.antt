@@ -12,9 +12,8 @@ use borrow.Author.Tests.{leb-true}
 use Rattle.digits.specs.Lists.{All, Distinct}
 use Rattle.digits.proofs.ListLaws.{all-part, all-join}
 use Rattle.answers.specs.declared.Answer.the-variants.{Accepted}
-use Rattle.answers.specs.declared.Refusal.{Refusal}
 use Rattle.answers.specs.declared.Refusal.the-variants.{CodeLength}
-use Rattle.answers.specs.Outcome.{Outcome, accepted, Unaltered, refused}
+use Rattle.answers.specs.Outcome.{Outcome, accepted, Unaltered}
 use Rattle.answers.proofs.OutcomeLaws.{accepted-refused, unless-accepted, keeps-unless, keeps-accepted}
 use Rattle.codes.specs.Code.{longest, IsCode}
 use Rattle.identities.specs.Rows.{fresh?}
@@ -144,10 +143,6 @@ pub record Deleted (b : List ℕ) (t : ℕ) (f : Forest (Entry Name)) (n : ℕ) 
 answered : (o : Outcome) (n k : ℕ) (c : List ℕ) → o ≡ accepted k c → o .answer ≡ Accepted n → n ≡ k
 answered o n k c e a = let z : Accepted n ≡ Accepted k = sym a ∙ ap (λ (p : Outcome). p .answer) e in cc
 
--- what is accepted is no refusal
-refused-not : {A : Type 0} (b : List ℕ) (n : ℕ) (r : Refusal) → refused r b .answer ≡ Accepted n → A
-refused-not b n r e = accepted-refused (sym e)
-
 -- in terms of the tree that the lines stand for
 module _ (b : List ℕ) (h : Holds b (treeIn b)) where
   abbrev g : Forest (Entry Name)
@@ -188,11 +183,12 @@ module _ (b : List ℕ) (h : Holds b (treeIn b)) where
   insert-here : (w : Where) (t : ℕ) (m : Name) (n : ℕ) → insertOutcome b w t m .answer ≡ Accepted n
       → Inserted b w t m g n (insertOutcome b w t m .bytes)
   insert-here w t m n =
-      insert-cases b (λ o. o .answer ≡ Accepted n → Inserted b w t m g n (o .bytes)) (λ r _ e. refused-not b n r e) w t m (put-held w t m n)
+      insert-cases b (λ o. o .answer ≡ Accepted n → Inserted b w t m g n (o .bytes)) (λ r _ e. accepted-refused (sym e)) w t m
+      (put-held w t m n)
 
   delete-here : (t n : ℕ) → deleteOutcome b t .answer ≡ Accepted n → Deleted b t g n (deleteOutcome b t .bytes)
   delete-here t n =
-      delete-cases b (λ o. o .answer ≡ Accepted n → Deleted b t g n (o .bytes)) (λ r _ e. refused-not b n r e) t
+      delete-cases b (λ o. o .answer ≡ Accepted n → Deleted b t g n (o .bytes)) (λ r _ e. accepted-refused (sym e)) t
       (λ i _ k p l a. cut-held t n i k p l a)
 
 module _ (b : List ℕ) (f : Forest (Entry Name)) (h : Holds b f) where
@@ -201,7 +197,8 @@ module _ (b : List ℕ) (f : Forest (Entry Name)) (h : Holds b f) where
 
   pub insert-accepted : (w : Where) (t : ℕ) (m : Name) (n : ℕ) → insertOutcome b w t m .answer ≡ Accepted n
       → Inserted b w t m f n (insertOutcome b w t m .bytes)
-  insert-accepted w t m n a = subst (λ g. Inserted b w t m g n (insertOutcome b w t m .bytes)) (tree-held b f h) (insert-here b here w t m n a)
+  insert-accepted w t m n a =
+      subst (λ g. Inserted b w t m g n (insertOutcome b w t m .bytes)) (tree-held b f h) (insert-here b here w t m n a)
 
   pub delete-accepted : (t n : ℕ) → deleteOutcome b t .answer ≡ Accepted n → Deleted b t f n (deleteOutcome b t .bytes)
   delete-accepted t n a = subst (λ g. Deleted b t g n (deleteOutcome b t .bytes)) (tree-held b f h) (delete-here b here t n a)

@@ -27,7 +27,8 @@ returns-2 : tie.Need-returns-2
 returns-2 c =
     let k = c .before .before in
     let a = k .before .before .before .args in
-    c .is-empty .ensures ∙ parent-none (read (a .parent .now)) (sideOf (read (a .start .now))) (sym (k .holds-code .ensures) ∙ c .before .if1 .left)
+    c .is-empty .ensures
+    ∙ parent-none (read (a .parent .now)) (sideOf (read (a .start .now))) (sym (k .holds-code .ensures) ∙ c .before .if1 .left)
 
 pub parent-sound-spec : {M : Type 1} → statement M
 parent-sound-spec = tie.close (tie.spec holds-code-requires below-requires returns is-empty-requires returns-2)

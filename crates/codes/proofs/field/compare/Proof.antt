@@ -46,18 +46,19 @@ module _ (c : tie.After-word2 Inv-loop μ-loop) where
   abbrev rest : List ℕ → List ℕ
   rest x = drop (8 * (c .before .before .before .loop .k + 1)) x
 
-  turn : (o p : Ordering) → Compared (c .before .word .result) (c .word2 .result) o → Compared (c .word2 .result) (c .before .word .result) p
+  turn : (o p : Ordering) → Compared (c .before .word .result) (c .word2 .result) o
+      → Compared (c .word2 .result) (c .before .word .result) p
       → (below? left right ≡ belowAt o (below? (rest left) (rest right)))
       × (below? right left ≡ belowAt p (below? (rest right) (rest left)))
   turn o p h g =
       let known = c .before .before .before .before in
       let loop = c .before .before .before .loop in
       let l = all-bytes left (λ i. omega (arith, known .before .shared-slice-known .given i)) in
-      let r = all-bytes right (λ i. omega (arith, known .shared-slice-known2 .given i)) in (
-        below?-turn left right (omega arith) (omega arith) l r (loop .k) (omega arith) _ _ o (c .before .word .ensures) (c .word2 .ensures) h
-            (loop .inv .1),
-        below?-turn right left (omega arith) (omega arith) r l (loop .k) (omega arith) _ _ p (c .word2 .ensures) (c .before .word .ensures) g
-            (loop .inv .2),
+      let r = all-bytes right (λ i. omega (arith, known .shared-slice-known2 .given i)) in
+      let a = c .before .word .ensures in
+      let b = c .word2 .ensures in (
+        below?-turn left right (omega arith) (omega arith) l r (loop .k) (omega arith) _ _ o a b h (loop .inv .1),
+        below?-turn right left (omega arith) (omega arith) r l (loop .k) (omega arith) _ _ p b a g (loop .inv .2),
       )
 
 returns : tie.Need-returns Inv-loop μ-loop

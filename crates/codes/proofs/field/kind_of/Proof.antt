@@ -21,7 +21,8 @@ returns-2 c =
 
 returns-3 : tie.Need-returns-3
 returns-3 c =
-    kind-unsound (read (c .before .before .before .before .before .args .field .now)) (sym (c .before .before .before .holds-code .ensures) ∙ c .before .before .if1 .left)
+    kind-unsound (read (c .before .before .before .before .before .args .field .now))
+    (sym (c .before .before .before .holds-code .ensures) ∙ c .before .before .if1 .left)
     (sym (c .before .is-empty .ensures) ∙ c .if2 .left)
 
 pub kind-of-spec : {M : Type 1} → statement M

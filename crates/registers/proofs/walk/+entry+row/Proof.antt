@@ -97,8 +97,8 @@ pub +entry+row-spec : {M : Type 1} → statement M
     let a = p .before .before .before in
     let b = a .args .register .now in
     let places = a .pre .1 .1 .0 in
-    entry-no b (a .args .n) (a .args .parent) (a .args .depth) (codeAt b (a .args .low)) (a .args .at) (a .pre .1 .0) (places .1) (places .0)
-    (omega arith)
+    entry-no b (a .args .n) (a .args .parent) (a .args .depth) (codeAt b (a .args .low)) (a .args .at) (a .pre .1 .0) (places .1)
+    (places .0) (omega arith)
     (sym (p .in-place .ensures) ∙ c .if2 .left)))
     (λ t. row-lts.spec (
       start-place-reads.Asked,
@@ -181,7 +181,8 @@ pub +entry+row-spec : {M : Type 1} → statement M
     let low = below-at b _ _ _ _ _ (g .fields-below .ensures) (g .before .before .start-place2 .ensures) (g .before .end-place .ensures) in
     let h = g .before .before .before .loop-test .taken in
     let n = c .before .before in
-    let w = row-to b (a .args .n) (a .args .parent) (a .args .depth) (codeAt b (l .loop .low)) (l .loop .i) (a .pre .1 .0) (a .pre .1 .1 .1) h
+    let w = row-to b (a .args .n) (a .args .parent) (a .args .depth) (codeAt b (l .loop .low)) (l .loop .i) (a .pre .1 .0)
+    (a .pre .1 .1 .1) h
     (sym low ∙ not-false _ (n .before .before .before .if1 .left)) _ (sym (n .before .before .entry .ensures) ∙ n .next .given .1) in (
       omega (arith, w .later, l .loop .inv .0),
       w .inside,

@@ -50,8 +50,8 @@ returns-3 c =
     let o = c .before .before .before .before .before in
     let l = o .before in
     let a = l .before .before .before in
-    tree-end (a .args .register .now) (a .args .n) (a .pre .1) (labels l) (sym (o .orphan .ensures) ∙ not-false _ (c .before .before .before .before .if2 .left))
-    _
+    tree-end (a .args .register .now) (a .args .n) (a .pre .1) (labels l)
+    (sym (o .orphan .ensures) ∙ not-false _ (c .before .before .before .before .if2 .left)) _
     (sym (c .before .before .before .row .ensures) ∙ c .before .end .given .1)
 
 returns-4 : tie.Need-returns-4
@@ -59,7 +59,8 @@ returns-4 c =
     let o = c .before .before .before .before in
     let l = o .before in
     let a = l .before .before .before in
-    tree-un (a .args .register .now) (a .args .n) (a .pre .1) (labels l) (sym (o .orphan .ensures) ∙ not-false _ (c .before .before .before .if2 .left))
+    tree-un (a .args .register .now) (a .args .n) (a .pre .1) (labels l)
+    (sym (o .orphan .ensures) ∙ not-false _ (c .before .before .before .if2 .left))
     (sym (c .before .before .row .ensures) ∙ c .enum-told .given .1)
 
 pub tree-spec : {M : Type 1} → statement M

@@ -39,7 +39,8 @@ add-t11 : tie.Need-add-t11
 add-t11 c =
     let s = c .before .before .before in
     let p = s .args .self in
-    omega (arith, stored (c .before), fits-byte p (s .args .digit) (p .count % 4) (s .pre .small) (omega arith) (omega arith) refl (s .pre .opened))
+    let k : ℕ = p .count % 4 in
+    omega (arith, stored (c .before), fits-byte p (s .args .digit) k (s .pre .small) (omega arith) (omega arith) refl (s .pre .opened))
 
 add-t12 : tie.Need-add-t12
 add-t12 c = search needs
