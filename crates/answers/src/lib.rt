@@ -1,4 +1,6 @@
 // What a call answers: a number where it is accepted, or why it is refused.
+#![tactic(auto)]
+
 ghost use Rattle.std.specs.Prelude.{◌≡◌, ◌^◌, ◌≤◌, ◌<◌};
 ghost use Rattle.answers.specs.Number.{number_of, row_of};
 ghost use Rattle.answers.specs.Signed.{refused_as, signed_of, Signable, with_row, signed_row_of, SignableRow};
@@ -10,7 +12,7 @@ const REFUSED: i32 = -100000;
 const EACH_ROW: u64 = 1000000;
 
 // A case for each reason of 01's table of refusals; a row of a table stands with the cases that answer one.
-#[derive(Drop)]
+#[derive(Clone, Copy)]
 pub enum Refusal {
     TableSize,
     RowDepth(usize),
@@ -28,7 +30,7 @@ pub enum Refusal {
     Order,
 }
 
-#[derive(Drop)]
+#[derive(Clone, Copy)]
 pub enum Answer {
     Accepted(usize),
     Refused(Refusal),

@@ -118,8 +118,8 @@ module _ (t used : List ℕ) (x : ℕ) (held : Holds t used) (some : x ≡ 0 →
       known : (k : ℕ) → k < place_count → (get_or (set t i x) k 0 ≡ 0) ⊎ (is_among (get_or (set t i x) k 0) (x ∷ used) ≡ true)
       known k h =
           ⊎_elim
-          (λ e. inr (rw (stored_here k e) (among_here x used)))
-          (λ e. rw (get_or-set_other t i k x 0 e) (known_other k h))
+          (λ e. inr (subst (λ (v : ℕ). is_among v (x ∷ used) ≡ true) (sym (stored_here k e)) (among_here x used)))
+          (λ e. subst (λ (v : ℕ). (v ≡ 0) ⊎ (is_among v (x ∷ used) ≡ true)) (sym (get_or-set_other t i k x 0 e)) (known_other k h))
           (same_or_not k i)
 
       found_other : (y : ℕ) → (y ≡ 0 → ⊥) → is_among y used ≡ true → In (set t i x) y

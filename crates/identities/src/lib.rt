@@ -1,4 +1,6 @@
 // A table of identities: a new one is told from a used one in a few looks.
+#![tactic(auto)]
+
 ghost use Rattle.std.specs.Prelude.{◌≡◌, true, suc, ◌*◌, ◌≤◌, ◌<◌, length, get_or, take};
 ghost use Rattle.identities.specs.Identities.{is_among, place_count, hash_of, SlotIs, Entering, Holds};
 ghost use Rattle.identities.specs.Rows.{is_fresh, earlier, is_all_new};
@@ -7,7 +9,7 @@ ghost use Rattle.identities.specs.Rows.{is_fresh, earlier, is_all_new};
 pub const PLACES: usize = 8192;
 
 // The free place where an identity goes, or that it stands in the table, or that no place is free.
-#[derive(Drop)]
+#[derive(Clone, Copy)]
 enum Slot {
     Free(usize),
     Taken,
@@ -15,7 +17,7 @@ enum Slot {
 }
 
 // An identity is entered now, or it was before, or there was no place for it.
-#[derive(Drop)]
+#[derive(Clone, Copy)]
 enum Entered {
     New,
     Known,

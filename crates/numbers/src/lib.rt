@@ -1,4 +1,6 @@
 // Runs of bytes and 32-bit numbers that are read from a lent slice, written into it and moved within it.
+#![tactic(auto)]
+
 ghost use Rattle.std.specs.Prelude.{◌≡◌, ◌+◌, ◌≤◌, ◌<◌, length, take, drop, replicate};
 ghost use Rattle.numbers.specs.Bytes.{le4, number_at, put};
 
@@ -18,6 +20,7 @@ pub fn read_u32(s: &[u8], at: usize) -> u32
 }
 
 // Leaves the four bytes of `x`, lowest first, from `at` on.
+#[tactic(auto, using(crate::proofs::PutLaws::put_four))]
 pub fn write_u32(s: &mut [u8], at: usize, x: u32)
     requires fits { at + 4 ≤ length s.old }
     ensures bytes { s.new ≡ put s.old at (le4 x) }
@@ -41,6 +44,7 @@ pub fn move_up(s: &mut [u8], to: usize, from: usize, n: usize)
 }
 
 // Leaves from `to` on the `n` bytes that stood from `from` on, where `to` is no later: the first is moved first.
+#[tactic(auto, using(crate::proofs::PutLaws::put_nil))]
 pub fn move_down(s: &mut [u8], to: usize, from: usize, n: usize)
     requires fits { (to ≤ from) × (from + n ≤ length s.old) }
     ensures bytes { s.new ≡ put s.old to (take n (drop from s.old)) }
@@ -53,6 +57,7 @@ pub fn move_down(s: &mut [u8], to: usize, from: usize, n: usize)
 }
 
 // Leaves `n` zeros from `at` on.
+#[tactic(auto, using(crate::proofs::PutLaws::put_nil))]
 pub fn clear(s: &mut [u8], at: usize, n: usize)
     requires fits { at + n ≤ length s.old }
     ensures bytes { s.new ≡ put s.old at (replicate n 0) }
@@ -65,6 +70,7 @@ pub fn clear(s: &mut [u8], at: usize, n: usize)
 }
 
 // Leaves in `dst` from `to` on the `n` bytes of `src` from `from` on.
+#[tactic(auto, using(crate::proofs::PutLaws::put_nil))]
 pub fn copy(dst: &mut [u8], to: usize, src: &[u8], from: usize, n: usize)
     requires fits { (to + n ≤ length dst.old) × (from + n ≤ length src.now) }
     ensures bytes { dst.new ≡ put dst.old to (take n (drop from src.now)) }

@@ -1,0 +1,12 @@
+-- Each turn puts one element more in its place.
+use Rattle.std.proofs.Common.{arith}
+use lib.ListN.{length-set}
+use Rattle.numbers.proofs.MoveLaws.{move_down_turn}
+use Rattle.numbers.proofs.move_down.Goals as goal
+
+pub loop-j-preserved : goal.loop-j-preserved
+loop-j-preserved c = (
+  omega arith,
+  rw c.loop-j.invariant.1 (move_down_turn c.args.s.now c.args.to c.args.from c.loop-j.j (omega arith) (omega arith)),
+  simp length-set c.loop-j.invariant.2,
+)
