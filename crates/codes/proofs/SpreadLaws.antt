@@ -21,7 +21,7 @@ use Rattle.codes.specs.contracts.spread.Code.{the_type}
 
 -- whoever has a code by value knows how long its array is
 pub whole : (c : Code) (vs : List Val) → Is (row the_type) c vs → length c.digits ≡ 128
-whole c vs known = sym (length-map c.digits (λ v. v)) ∙ known.1.1.0.1.0.1
+whole c vs known = known.1.1.0.1.0.1
 
 digits_length : (c : Code) → length c.digits ≡ 128 → c.count ≤ 128 → length (digits_of c) ≡ c.count
 digits_length c w h = length-take-le c.count c.digits (omega arith)

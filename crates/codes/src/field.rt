@@ -8,7 +8,7 @@ ghost use Rattle.codes.specs.Words.{word_at, blanks as blanks_of, full, ended, i
 use crate::spread::Code;
 
 // What a field holds: a code, nothing, or neither.
-#[derive(Drop)]
+#[derive(Clone, Copy)]
 pub enum Kind {
     Full,
     Empty,
@@ -67,8 +67,8 @@ fn end_word(word: u64) -> bool
 
 // A code ends in this word: those of its digits that are zero are the lowest, and the one above them is 2 or 3.
 fn end_above(word: u64, zeros: u64) -> bool
-    requires zeros_value { zeros ≡ blanks_of 32 word }
-    requires fact { word ≡ 0 → ⊥ }
+    requires zeros { zeros ≡ blanks_of 32 word }
+    requires some { word ≡ 0 → ⊥ }
     ensures { result ≡ ended 32 word }
 {
     let last = zeros + 1;

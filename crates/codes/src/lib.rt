@@ -1,4 +1,6 @@
 // Codes and their packed fields: packing, unpacking, and a code between two codes.
+#![tactic(auto)]
+
 ghost use Rattle.std.specs.Prelude.{◌≡◌, true, ◌+◌, ◌≤◌, length};
 ghost use Rattle.numbers.specs.Bytes.{put};
 ghost use Rattle.codes.specs.Code.{field_size, IsCode, is_code};
@@ -18,7 +20,7 @@ pub use packer::{Packer, byte_after};
 pub use spread::{Code, lower_cut, step, upper_cut};
 
 // The two sides of a gap: in order, one of them no code, or two codes in the wrong order.
-#[derive(Drop)]
+#[derive(Clone, Copy)]
 pub enum Sides {
     Ordered,
     NoSide,

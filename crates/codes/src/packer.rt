@@ -3,7 +3,7 @@ ghost use Rattle.std.specs.Prelude.{◌≡◌};
 ghost use Rattle.codes.specs.Packer.{nothing, pushed, Open, Pushable};
 
 // The byte that is being filled, and how many digits were pushed.
-#[derive(Drop)]
+#[derive(Clone, Copy)]
 pub struct Packer {
     pub pending: u8,
     pub count: usize,

@@ -7,7 +7,7 @@ ghost use Rattle.codes.specs.Field.{spread, lead};
 ghost use Rattle.codes.specs.Spread.{digits_of, Held, Short, Fit};
 
 // The first count of the digits; the rest counts for nothing. There is room for one more than a code may have.
-#[derive(Drop)]
+#[derive(Clone, Copy)]
 pub struct Code {
     pub(crate) digits: [u8; Code::LONGEST + 1],
     pub(crate) count: usize,

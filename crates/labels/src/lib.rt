@@ -1,4 +1,6 @@
 // Questions on two labels: order, above, parent, sibling.
+#![tactic(auto)]
+
 ghost use Rattle.std.specs.Prelude.{◌≡◌, true, ◌&&◌, ◌+◌, ◌≤◌, length};
 ghost use Rattle.answers.specs.Signed.{yes_no};
 ghost use Rattle.codes.specs.Code.{field_size};

@@ -1,0 +1,14 @@
+-- `is_parent` meets its contract: two whole fields. Assumes nothing.
+use native.Mathlib.Omega.{arith}
+use Rattle.labels.proofs.LabelLaws.{sound_gives}
+use Rattle.labels.proofs.QuestionLaws.{parent_same}
+use Rattle.labels.proofs.is_parent.Goals as goal
+
+pub field-requires : goal.field-requires
+field-requires c = record { inside = omega (arith, (sound_gives _ c.requires.sound.1).size) }
+
+pub field-requires-2 : goal.field-requires-2
+field-requires-2 c = record { inside = omega (arith, (sound_gives _ c.requires.sound.0).size) }
+
+pub returns : goal.returns
+returns c = record { parent = parent_same _ _ c.requires.sound.0 c.requires.sound.1 _ _ _ c.field.ensures.part c.field-2.ensures.part c.same.ensures.same }
