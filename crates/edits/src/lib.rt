@@ -1,4 +1,6 @@
 // Single edits of a register: one entry put in at one of four places, one leaf taken out.
+#![tactic(auto)]
+
 ghost use Rattle.std.specs.Prelude.{◌≡◌, true, ◌≤◌, ◌<◌};
 ghost use Rattle.codes.specs.Code.{IsCode};
 ghost use Rattle.codes.specs.Spread.{digits_of};
@@ -23,7 +25,7 @@ use codes::Code;
 use registers::{DEEPEST, ENTRY, Found, MOST, end_place, entry_place, parent_place, start_place};
 
 // Where an entry is put in, with the identity of its target.
-#[derive(Drop)]
+#[derive(Clone, Copy)]
 pub enum Place {
     FirstChildOf(u32),
     LastChildOf(u32),
@@ -31,7 +33,7 @@ pub enum Place {
     After(u32),
 }
 
-#[derive(Drop)]
+#[derive(Clone, Copy)]
 pub enum Edit {
     Insert {
         place: Place,
@@ -44,7 +46,7 @@ pub enum Edit {
 }
 
 // Where the codes on both sides of a place stand.
-#[derive(Drop)]
+#[derive(Clone, Copy)]
 struct Gap {
     left: usize,
     right: usize,

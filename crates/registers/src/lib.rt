@@ -1,4 +1,6 @@
 // A register: its layout, its soundness, the questions on it, and an entry's parts written in their places.
+#![tactic(auto)]
+
 ghost use Rattle.std.specs.Prelude.{◌≡◌, true, cond, ◌++◌, [], ◌+◌, ◌≤◌, ◌<◌, length};
 ghost use Rattle.numbers.specs.Bytes.{put, le4};
 ghost use Rattle.codes.specs.Code.{IsCode};
@@ -41,7 +43,7 @@ pub const ENTRY_LABEL: usize = TAG + 4;
 pub const ENTRY: usize = ENTRY_LABEL + LABEL;
 
 // Where an identity stands, from 0, or that it does not.
-#[derive(Drop)]
+#[derive(Clone, Copy)]
 pub enum Found {
     At(usize),
     Nothing,

@@ -13,7 +13,7 @@ use codes::Code;
 use labels::{END, LABEL, PARENT, START};
 
 // Where a walk came to, or that what it met is not sound.
-#[derive(Drop)]
+#[derive(Clone, Copy)]
 pub enum Walked {
     To(usize),
     Unsound,

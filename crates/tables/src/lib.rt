@@ -1,4 +1,6 @@
 // Tables: their rules, and the first labelling of their rows.
+#![tactic(auto)]
+
 ghost use Rattle.std.specs.Prelude.{◌≡◌, ◌*◌, ◌≤◌, length};
 ghost use Rattle.tables.specs.Table.{most_rows, row_size, rows_of};
 ghost use Rattle.tables.specs.Rules.{is_depth, rows_checked, checked_of};
@@ -17,7 +19,7 @@ use walk::Cursor;
 pub const ROW: usize = 3;
 
 // A table that was gone through: the number of its rows, or why it is refused.
-#[derive(Drop)]
+#[derive(Clone, Copy)]
 pub enum Checked {
     Rows(usize),
     Bad(Refusal),

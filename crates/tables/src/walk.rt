@@ -13,7 +13,7 @@ use crate::ROW;
 use codes::Code;
 
 // The next row, and the number of open entries.
-#[derive(Drop)]
+#[derive(Clone, Copy)]
 pub struct Cursor {
     pub row: usize,
     pub level: usize,

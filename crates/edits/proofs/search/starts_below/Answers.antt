@@ -1,0 +1,40 @@
+-- `starts_below` meets its contract. The loop's invariant: all lines before line i start below the code. Assumes nothing.
+use mathlib.Core.Path.{sym, ap, ◌∙◌, subst}
+use native.Mathlib.Omega.{arith}
+use Rattle.digits.specs.Order.{is_below}
+use Rattle.registers.specs.Entries.{code_at}
+use Rattle.registers.specs.Sound.{CodeAt}
+use Rattle.registers.proofs.QuestionLaws.{sized_of, codes_at}
+use Rattle.edits.proofs.SearchLaws.{leading_next, leading_stop}
+use Rattle.edits.proofs.search.starts_below.Goals as goal
+
+pub start_place-requires : goal.start_place-requires
+start_place-requires c = record { most = omega (arith, (sized_of _ c.requires.sound).most, c.loop-i.invariant.1) }
+
+pub fields_below-requires : goal.fields_below-requires
+fields_below-requires c = record {
+  codes = let b = c.args.register.now in (
+    subst (CodeAt b) (sym c.start_place.ensures.place) (codes_at b c.requires.sound c.loop-i.i (omega (arith, c.loop-i.invariant.1))).start_at_lem,
+    c.requires.code,
+  );
+}
+
+pub returns-then-not-fields_below : goal.returns-then-not-fields_below
+returns-then-not-fields_below c = let b = c.args.register.now in
+    let r = code_at b c.args.at in
+    let s = leading_stop b r c.requires.sound c.loop-i.i (omega (arith, c.loop-i.invariant.1))
+    (ap (λ z. is_below (code_at b z) r) (sym c.start_place.ensures.place) ∙ sym c.fields_below.ensures.below ∙ c.if-not-fields_below.true) in
+    record {
+      starts = omega (arith, s, c.loop-i.invariant.2);
+      most = omega (arith, c.loop-i.invariant.1);
+    }
+
+pub loop-i-preserved : goal.loop-i-preserved
+loop-i-preserved c = let b = c.args.register.now in
+    let r = code_at b c.args.at in (
+      omega arith,
+      c.loop-i.invariant.1,
+      c.loop-i.invariant.2
+          ∙ leading_next b r c.requires.sound c.loop-i.i (omega (arith, c.loop-i.invariant.1))
+          (ap (λ z. is_below (code_at b z) r) (sym c.start_place.ensures.place) ∙ sym c.fields_below.ensures.below ∙ c.if-not-fields_below.false),
+    )
