@@ -1,5 +1,7 @@
 // The calls of `codes`, `labels`, `registers`, `tables` and `edits` for a host program in C, as include/plant.h declares them.
 // Where a call answers an enum, it is turned into a number.
+#![tactic(auto)]
+
 ghost use Rattle.std.specs.Prelude.{◌≡◌};
 ghost use Rattle.answers.specs.Signed.{signed_of, signed_row_of};
 ghost use Rattle.codes.specs.Calls.{pack_outcome, unpack_outcome, between_outcome};
@@ -11,94 +13,77 @@ ghost use Rattle.labels.specs.Questions.{order_answer, above_answer, parent_answ
 use codes::Code;
 use edits::{Edit, Place};
 
-#[unsafe(no_mangle)]
-pub extern "C" fn plant_order(u: &[u8], v: &[u8]) -> i32
+pub fn plant_order(u: &[u8], v: &[u8]) -> i32
     ensures answer { result ≡ order_answer u.now v.now }
 {
     labels::order(u, v)
 }
 
-#[unsafe(no_mangle)]
-pub extern "C" fn plant_above(u: &[u8], v: &[u8]) -> i32
+pub fn plant_above(u: &[u8], v: &[u8]) -> i32
     ensures answer { result ≡ above_answer u.now v.now }
 {
     labels::above(u, v)
 }
 
-#[unsafe(no_mangle)]
-pub extern "C" fn plant_parent(u: &[u8], v: &[u8]) -> i32
+pub fn plant_parent(u: &[u8], v: &[u8]) -> i32
     ensures answer { result ≡ parent_answer u.now v.now }
 {
     labels::parent(u, v)
 }
 
-#[unsafe(no_mangle)]
-pub extern "C" fn plant_sibling(u: &[u8], v: &[u8]) -> i32
+pub fn plant_sibling(u: &[u8], v: &[u8]) -> i32
     ensures answer { result ≡ sibling_answer u.now v.now }
 {
     labels::sibling(u, v)
 }
 
-#[unsafe(no_mangle)]
-pub extern "C" fn plant_pack(digits: &[u8], field: &mut [u8]) -> i32
+pub fn plant_pack(digits: &[u8], field: &mut [u8]) -> i32
     ensures answer { result ≡ signed_of (pack_outcome digits.now field.old).answer }
     ensures bytes { field.new ≡ (pack_outcome digits.now field.old).bytes }
 {
     Code::pack(digits, field).signed()
 }
 
-#[unsafe(no_mangle)]
-pub extern "C" fn plant_unpack(field: &[u8], digits: &mut [u8]) -> i32
+pub fn plant_unpack(field: &[u8], digits: &mut [u8]) -> i32
     ensures answer { result ≡ signed_of (unpack_outcome field.now digits.old).answer }
     ensures bytes { digits.new ≡ (unpack_outcome field.now digits.old).bytes }
 {
     Code::unpack(field, digits).signed()
 }
 
-#[unsafe(no_mangle)]
-pub extern "C" fn plant_between(left: &[u8], right: &[u8], field: &mut [u8]) -> i32
+pub fn plant_between(left: &[u8], right: &[u8], field: &mut [u8]) -> i32
     ensures answer { result ≡ signed_of (between_outcome left.now right.now field.old).answer }
     ensures bytes { field.new ≡ (between_outcome left.now right.now field.old).bytes }
 {
     Code::between(left, right, field).signed()
 }
 
-#[unsafe(no_mangle)]
-pub extern "C" fn plant_label(table: &[u32], register: &mut [u8]) -> i64
+pub fn plant_label(table: &[u32], register: &mut [u8]) -> i64
     ensures answer { result ≡ signed_row_of (label_outcome table.now register.old).answer }
     ensures bytes { register.new ≡ (label_outcome table.now register.old).bytes }
 {
     tables::label(table, register).signed_row()
 }
 
-#[unsafe(no_mangle)]
-pub extern "C" fn plant_place(register: &[u8], identity: u32) -> i32
+pub fn plant_place(register: &[u8], identity: u32) -> i32
     ensures answer { result ≡ signed_of (place_answer register.now identity) }
 {
     registers::place(register, identity).signed()
 }
 
-#[unsafe(no_mangle)]
-pub extern "C" fn plant_depth(register: &[u8], identity: u32) -> i32
+pub fn plant_depth(register: &[u8], identity: u32) -> i32
     ensures answer { result ≡ depth_answer register.now identity }
 {
     registers::depth(register, identity)
 }
 
-#[unsafe(no_mangle)]
-pub extern "C" fn plant_distance(register: &[u8], x: u32, y: u32) -> i32
+pub fn plant_distance(register: &[u8], x: u32, y: u32) -> i32
     ensures answer { result ≡ distance_answer register.now x y }
 {
     registers::distance(register, x, y)
 }
 
-#[unsafe(no_mangle)]
-pub extern "C" fn plant_insert_first(
-    register: &mut [u8],
-    target: u32,
-    identity: u32,
-    tag: u32,
-) -> i32
+pub fn plant_insert_first(register: &mut [u8], target: u32, identity: u32, tag: u32) -> i32
     ensures answer { result ≡ signed_of
         (apply_outcome register.old (Edit.Insert (Place.FirstChildOf target) identity tag)).answer }
     ensures bytes { register.new
@@ -114,13 +99,7 @@ pub extern "C" fn plant_insert_first(
     )
 }
 
-#[unsafe(no_mangle)]
-pub extern "C" fn plant_insert_last(
-    register: &mut [u8],
-    target: u32,
-    identity: u32,
-    tag: u32,
-) -> i32
+pub fn plant_insert_last(register: &mut [u8], target: u32, identity: u32, tag: u32) -> i32
     ensures answer { result ≡ signed_of
         (apply_outcome register.old (Edit.Insert (Place.LastChildOf target) identity tag)).answer }
     ensures bytes { register.new
@@ -136,13 +115,7 @@ pub extern "C" fn plant_insert_last(
     )
 }
 
-#[unsafe(no_mangle)]
-pub extern "C" fn plant_insert_before(
-    register: &mut [u8],
-    target: u32,
-    identity: u32,
-    tag: u32,
-) -> i32
+pub fn plant_insert_before(register: &mut [u8], target: u32, identity: u32, tag: u32) -> i32
     ensures answer { result ≡ signed_of
         (apply_outcome register.old (Edit.Insert (Place.Before target) identity tag)).answer }
     ensures bytes { register.new
@@ -158,13 +131,7 @@ pub extern "C" fn plant_insert_before(
     )
 }
 
-#[unsafe(no_mangle)]
-pub extern "C" fn plant_insert_after(
-    register: &mut [u8],
-    target: u32,
-    identity: u32,
-    tag: u32,
-) -> i32
+pub fn plant_insert_after(register: &mut [u8], target: u32, identity: u32, tag: u32) -> i32
     ensures answer { result ≡ signed_of
         (apply_outcome register.old (Edit.Insert (Place.After target) identity tag)).answer }
     ensures bytes { register.new
@@ -180,8 +147,7 @@ pub extern "C" fn plant_insert_after(
     )
 }
 
-#[unsafe(no_mangle)]
-pub extern "C" fn plant_delete(register: &mut [u8], target: u32) -> i32
+pub fn plant_delete(register: &mut [u8], target: u32) -> i32
     ensures answer { result ≡ signed_of (apply_outcome register.old (Edit.Delete target)).answer }
     ensures bytes { register.new ≡ (apply_outcome register.old (Edit.Delete target)).bytes }
 {

@@ -1,4 +1,6 @@
 // The text of a register's entry, and the reading of a table's text.
+#![tactic(auto)]
+
 ghost use Rattle.std.specs.Prelude.{◌≡◌, true, ◌∷◌, [], ◌++◌, map, ◌+◌, ◌*◌, ◌≤◌, ◌<◌, length, drop};
 ghost use Rattle.digits.specs.Lists.{All};
 ghost use Rattle.codes.specs.Code.{field_size};
@@ -24,21 +26,21 @@ pub const MOST_TEXT: usize = 33 * MOST_LINES;
 pub const LINE: usize = 2 * 11 + 3 * (Code::LONGEST + 1);
 
 // A decimal that was read and where the bytes behind it begin, or none.
-#[derive(Drop)]
+#[derive(Clone, Copy)]
 enum Decimal {
     Found(u32, usize),
     Missing,
 }
 
 // The numbers of a line that was read and where the bytes behind it begin, or none.
-#[derive(Drop)]
+#[derive(Clone, Copy)]
 enum Row {
     Whole(u32, u32, u32, usize),
     Broken,
 }
 
 // The number of rows of a text, or that it is not one of a table.
-#[derive(Drop)]
+#[derive(Clone, Copy)]
 pub enum Lines {
     Rows(usize),
     Unreadable,

@@ -1,0 +1,8 @@
+-- `plant_between` meets its contract: the call's answer as a number, and the call's bytes. Assumes nothing.
+use mathlib.Core.Path.{sym, subst}
+use Rattle.answers.specs.Signed.{Signable}
+use Rattle.codes.proofs.SignableLaws.{between_signable}
+use Rattle.host.proofs.plant_between.Goals as goal
+
+pub signed-requires : goal.signed-requires
+signed-requires c = record { small = subst Signable (sym c.between.ensures.answer) (between_signable _ _ _) }
