@@ -1,57 +1,60 @@
 // What the programs print: the lines of a register, the line of a refusal, a call's answer.
+#![tactic(auto)]
+
 ghost use Rattle.std.specs.Prelude.{◌+◌, ◌≤◌, length};
 ghost use Rattle.registers.specs.Layout.{entry_place, entry_size};
 
 use answers::{Answer, Refusal};
-use libc::STDOUT_FILENO;
+use std::io;
+use std::io::Write;
 use texts::LINE;
 
 // Prints the lines of the first n entries.
-pub fn lines(register: &[u8], n: usize)
+pub fn lines(rt: &impl Print, register: &[u8], n: usize) -> io::Result<()>
     requires entries { entry_place n ≤ length register.now }
 {
     let mut i = 0;
     while i < n {
-        line(register, i);
+        line(rt, register, i)?;
         i += 1;
     }
+    Ok(())
 }
 
-fn line(register: &[u8], i: usize)
+fn line(rt: &impl Print, register: &[u8], i: usize) -> io::Result<()>
     requires entry { entry_place i + entry_size ≤ length register.now }
 {
     let mut out = [0u8; LINE];
     let n = texts::line(register, i, &mut out);
-    text(&out[..n]);
+    text(rt, &out[..n])
 }
 
 // Prints the line of a refusal.
-pub fn refused(refusal: Refusal) {
+pub fn refused(rt: &impl Print, refusal: Refusal) -> io::Result<()> {
     let mut out = [0u8; LINE];
     let n = texts::refused(refusal, &mut out);
-    text(&out[..n]);
+    text(rt, &out[..n])
 }
 
 // Prints that what was read is no text of a table or no register of a size that is taken.
-pub fn unreadable() {
-    text(b"unreadable\n");
+pub fn unreadable(rt: &impl Print) -> io::Result<()> {
+    text(rt, b"unreadable\n")
 }
 
 // Prints a call's answer: its number, or `refused` and the paper's number.
-pub fn answered(answer: Answer) {
+pub fn answered(rt: &impl Print, answer: Answer) -> io::Result<()> {
     match answer {
         Answer::Accepted(n) => {
-            text(b" ");
-            io::print_decimal(STDOUT_FILENO, n as u64);
+            print!(rt; " {n}")?;
         }
         Answer::Refused(refusal) => {
-            text(b" refused ");
-            io::print_decimal(STDOUT_FILENO, refusal.number() as u64);
+            let number = refusal.number();
+            print!(rt; " refused {number}")?;
         }
     }
-    text(b";");
+    text(rt, b";")
 }
 
-pub fn text(bytes: &[u8]) {
-    io::write_all(STDOUT_FILENO, bytes);
+pub fn text(rt: &impl Print, bytes: &[u8]) -> io::Result<()> {
+    io::writer(rt).write_all(bytes)
 }

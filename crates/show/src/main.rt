@@ -1,27 +1,27 @@
 // The program `show`: reads a register's bytes and prints its lines.
+#![tactic(auto)]
+
 use answers::Refusal;
-use libc::STDIN_FILENO;
 use registers::{ENTRY, HEADER};
+use std::io;
 use texts::MOST_LINES;
 
 // The bytes of the largest register that is taken.
 const MOST_BYTES: usize = HEADER + ENTRY * MOST_LINES;
 
 // One byte more is read, so that more bytes are told from the largest register.
-fn main() {
+fn main(rt: HostRuntime) -> io::Result<()> {
     let mut bytes = [0u8; MOST_BYTES + 1];
-    let n = io::read_full(STDIN_FILENO, &mut bytes);
-    show(&bytes[..n]);
+    let n = reader::read_full(&rt, &mut bytes)?;
+    show(&rt, &bytes[..n])
 }
 
-fn show(register: &[u8]) {
+fn show(rt: &impl Print, register: &[u8]) -> io::Result<()> {
     if MOST_BYTES < register.len() {
-        printer::unreadable();
-        return;
+        return printer::unreadable(rt);
     }
     if !registers::sound(register) {
-        printer::refused(Refusal::Register);
-        return;
+        return printer::refused(rt, Refusal::Register);
     }
-    printer::lines(register, registers::count(register));
+    printer::lines(rt, register, registers::count(register))
 }
