@@ -3,10 +3,11 @@
 
 run:
 	@tools/need rt gcc
-	rt check
+	rt all check
+	tools/programs
 	target/bin/vectors
 	target/bin/edit_vectors
-	rt staticlib host
+	tools/archive
 	tools/cc examples/labels.c
 	target/c/labels
 	tools/cc examples/incident.c
