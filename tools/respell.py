@@ -231,6 +231,8 @@ def main():
                         names.setdefault(n, []).append(p)
             if p.endswith(".antt"):
                 defined |= set(re.findall(rf"^ *(?:pub )?(?:abbrev|unfoldable|data|record)(?: pub)? ({NAME})", t, re.M))
+                if "/specs/" in p:
+                    defined |= set(declared(p, t))
         table = {}
         for n in names:
             s = snake(n)

@@ -7,7 +7,7 @@ use native.Mathlib.Omega.{arith}
 use lib.Dec.{ltb, eqb}
 use borrow.Author.Tests.{ltb-true, ltb-false, eq-eqb, ne_eqb, eqb-true}
 use Rattle.texts.specs.Printed.{space, newline, digit_byte, decimal, row_text}
-use Rattle.texts.specs.Reading.{number_limit, Number, number, no_number_lem, is_digit, longer, is_following, read_more, read_number, line, no_line_lem, with_third, with_second, with_first, read_line}
+use Rattle.texts.specs.Reading.{number_limit, Number, number, no_number, is_digit, longer, is_following, read_more, read_number, line, no_line, with_third, with_second, with_first, read_line}
 use Rattle.texts.proofs.DecimalLaws.{decimal_one, decimal_last, decimal_longer}
 use Rattle.texts.proofs.ReadingLaws.{Byte, digit_byte_lem, byte_digit, Follows, follows_gives, gives_follows}
 use Rattle.texts.proofs.TableLaws.{all_three}
@@ -61,8 +61,8 @@ pub record ReadFrom (stop : ℕ) (bytes : List ℕ) (y : ℕ) (t : List ℕ) : T
   pub printed : bytes ≡ decimal y ++ (stop ∷ t)
   pub small : y < number_limit
 
-no_number : {y : ℕ} {t : List ℕ} → no_number_lem ≡ number y t → ⊥
-no_number e = let z : ◌≡◌ {A = ℕ} 0 1 = cc in omega arith
+no_number_lem : {y : ℕ} {t : List ℕ} → no_number ≡ number y t → ⊥
+no_number_lem e = let z : ◌≡◌ {A = ℕ} 0 1 = cc in omega arith
 
 digit_back : (b : ℕ) → Byte b → digit_byte (b - 48) ≡ b
 digit_back b h = omega (arith, h.low)
@@ -84,28 +84,28 @@ module _ (stop y : ℕ) (t : List ℕ) where
       record { printed = l ∙ r.printed; small = r.small }
 
   more_read : (x : ℕ) (u : List ℕ) → x < number_limit → read_more stop x u ≡ number y t → ReadFrom stop (decimal x ++ u) y t
-  more_read x [] h e = absurd (no_number e)
+  more_read x [] h e = absurd (no_number_lem e)
   more_read x (b ∷ u) h e = go (eqb b stop) refl (is_following x b) refl e (λ i j. more_read (longer x b) u i j)
     where
       go : (s : Bool) → eqb b stop ≡ s → (f : Bool) → is_following x b ≡ f
-          → cond s (number x u) (cond f (read_more stop (longer x b) u) no_number_lem) ≡ number y t
+          → cond s (number x u) (cond f (read_more stop (longer x b) u) no_number) ≡ number y t
           → (longer x b < number_limit → read_more stop (longer x b) u ≡ number y t → ReadFrom stop (decimal (longer x b) ++ u) y t)
           → ReadFrom stop (decimal x ++ (b ∷ u)) y t
       go true p f q e rest = stop_read x b u h (eqb-true b stop p) e
-      go false p false q e rest = absurd (no_number e)
+      go false p false q e rest = absurd (no_number_lem e)
       go false p true q e rest = let k = follows_gives x b q in digit_read x b u k (rest k.fits e)
 
   number_read : (bytes : List ℕ) → read_number stop bytes ≡ number y t → ReadFrom stop bytes y t
-  number_read [] e = absurd (no_number e)
+  number_read [] e = absurd (no_number_lem e)
   number_read (b ∷ u) e = go (is_digit b) refl e
     where
-      go : (s : Bool) → is_digit b ≡ s → cond s (read_more stop (b - 48) u) no_number_lem ≡ number y t → ReadFrom stop (b ∷ u) y t
+      go : (s : Bool) → is_digit b ≡ s → cond s (read_more stop (b - 48) u) no_number ≡ number y t → ReadFrom stop (b ∷ u) y t
       go true p e =
           let k = byte_digit b p in
           let r = more_read (b - 48) u (omega (arith, k.high)) e in
           let d : decimal (b - 48) ≡ b ∷ [] = decimal_one (b - 48) (omega (arith, k.high)) ∙ rw (digit_back b k) in
           record { printed = (let l : b ∷ u ≡ decimal (b - 48) ++ u = rw d in l ∙ r.printed); small = r.small }
-      go false p e = absurd (no_number e)
+      go false p e = absurd (no_number_lem e)
 
 -- what is read as a line is that line
 pub record LineFrom (bytes : List ℕ) (a b c : ℕ) (t : List ℕ) : Type 0 where
@@ -114,8 +114,8 @@ pub record LineFrom (bytes : List ℕ) (a b c : ℕ) (t : List ℕ) : Type 0 whe
   pub second : b < number_limit
   pub third : c < number_limit
 
-no_line : {a b c : ℕ} {t : List ℕ} → no_line_lem ≡ line a b c t → ⊥
-no_line e = let z : ◌≡◌ {A = ℕ} 0 1 = cc in omega arith
+no_line_lem : {a b c : ℕ} {t : List ℕ} → no_line ≡ line a b c t → ⊥
+no_line_lem e = let z : ◌≡◌ {A = ℕ} 0 1 = cc in omega arith
 
 -- the three numbers of a line that is read
 three_read : (bytes : List ℕ) (a b c : ℕ) (t u v : List ℕ) → read_number space bytes ≡ number a u → read_number space u ≡ number b v
@@ -135,7 +135,7 @@ three_read bytes a b c t u v e f g =
 module _ (bytes : List ℕ) (a b c : ℕ) (t : List ℕ) where
   third_read : (x : ℕ) (u : List ℕ) (y : ℕ) (v : List ℕ) → read_number space bytes ≡ number x u → read_number space u ≡ number y v
       → (n : Number) → read_number newline v ≡ n → with_third x y n ≡ line a b c t → LineFrom bytes a b c t
-  third_read x u y v p q no_number_lem r e = absurd (no_line e)
+  third_read x u y v p q no_number r e = absurd (no_line_lem e)
   third_read x u y v p q (number z w) r e =
       let i : x ≡ a = cc in
       let j : y ≡ b = cc in
@@ -145,11 +145,11 @@ module _ (bytes : List ℕ) (a b c : ℕ) (t : List ℕ) where
 
   second_read : (x : ℕ) (u : List ℕ) → read_number space bytes ≡ number x u
       → (n : Number) → read_number space u ≡ n → with_second x n ≡ line a b c t → LineFrom bytes a b c t
-  second_read x u p no_number_lem q e = absurd (no_line e)
+  second_read x u p no_number q e = absurd (no_line_lem e)
   second_read x u p (number y v) q e = third_read x u y v p q (read_number newline v) refl e
 
   first_read : (n : Number) → read_number space bytes ≡ n → with_first n ≡ line a b c t → LineFrom bytes a b c t
-  first_read no_number_lem p e = absurd (no_line e)
+  first_read no_number p e = absurd (no_line_lem e)
   first_read (number x u) p e = second_read x u p (read_number space u) refl e
 
   pub line_read : read_line bytes ≡ line a b c t → LineFrom bytes a b c t

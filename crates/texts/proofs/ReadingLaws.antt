@@ -8,7 +8,7 @@ use lib.Dec.{ltb, leb}
 use lib.ListN.{length, drop, get_or, drop_of_length-le}
 use lib.Seq.{drop-cons}
 use borrow.Author.Tests.{lt-ltb, le-ltb, le-leb, lt-leb, eq-eqb, ne_eqb, leb-true, ltb-true}
-use Rattle.texts.specs.Reading.{number, no_number_lem, is_digit, longer, is_following, number_limit, read_more, read_number}
+use Rattle.texts.specs.Reading.{number, no_number, is_digit, longer, is_following, number_limit, read_more, read_number}
 
 -- the test for a digit's byte
 pub digit_low : (b : ℕ) → b < 48 → is_digit b ≡ false
@@ -66,7 +66,7 @@ module _ (stop : ℕ) (text : List ℕ) (i : ℕ) (h : i < length text) where
   abbrev byte_at : ℕ
   byte_at = get_or text i 0
 
-  pub number_missing : is_digit byte_at ≡ false → read_number stop (drop i text) ≡ no_number_lem
+  pub number_missing : is_digit byte_at ≡ false → read_number stop (drop i text) ≡ no_number
   number_missing e = rw (drop-cons text i 0 h, e)
 
   pub number_digit : is_digit byte_at ≡ true → read_number stop (drop i text) ≡ read_more stop (byte_at - 48) (drop (i + 1) text)
@@ -75,15 +75,15 @@ module _ (stop : ℕ) (text : List ℕ) (i : ℕ) (h : i < length text) where
   pub more_stop : (x : ℕ) → byte_at ≡ stop → read_more stop x (drop i text) ≡ number x (drop (i + 1) text)
   more_stop x e = rw (drop-cons text i 0 h, add-one i, eq-eqb byte_at stop e)
 
-  pub more_missing : (x : ℕ) → (byte_at ≡ stop → ⊥) → is_following x byte_at ≡ false → read_more stop x (drop i text) ≡ no_number_lem
+  pub more_missing : (x : ℕ) → (byte_at ≡ stop → ⊥) → is_following x byte_at ≡ false → read_more stop x (drop i text) ≡ no_number
   more_missing x n e = rw (drop-cons text i 0 h, ne_eqb byte_at stop n, e)
 
   pub more_digit : (x : ℕ) → (byte_at ≡ stop → ⊥) → is_following x byte_at ≡ true
       → read_more stop x (drop i text) ≡ read_more stop (longer x byte_at) (drop (i + 1) text)
   more_digit x n e = rw (drop-cons text i 0 h, add-one i, ne_eqb byte_at stop n, e)
 
-pub number_end : (stop : ℕ) (text : List ℕ) (i : ℕ) → length text ≤ i → read_number stop (drop i text) ≡ no_number_lem
+pub number_end : (stop : ℕ) (text : List ℕ) (i : ℕ) → length text ≤ i → read_number stop (drop i text) ≡ no_number
 number_end stop text i h = rw (drop_of_length-le text {i = i} h)
 
-pub more_end : (stop : ℕ) (text : List ℕ) (i x : ℕ) → length text ≤ i → read_more stop x (drop i text) ≡ no_number_lem
+pub more_end : (stop : ℕ) (text : List ℕ) (i x : ℕ) → length text ≤ i → read_more stop x (drop i text) ≡ no_number
 more_end stop text i x h = rw (drop_of_length-le text {i = i} h)

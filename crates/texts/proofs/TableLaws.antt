@@ -13,7 +13,7 @@ use Rattle.texts.specs.declared.Row.{Row}
 use Rattle.texts.specs.declared.Row.TheVariants.{Whole, Broken}
 use Rattle.texts.specs.declared.Lines.TheVariants.{Rows, Unreadable}
 use Rattle.texts.specs.Printed.{space, newline}
-use Rattle.texts.specs.Reading.{most_lines, Number, number, no_number_lem, read_number, Line, line, no_line_lem, read_line, Text, read_as, unreadable, read_lines, read_text}
+use Rattle.texts.specs.Reading.{most_lines, Number, number, no_number, read_number, Line, line, no_line, read_line, Text, read_as, unreadable, read_lines, read_text}
 use Rattle.texts.specs.Answers.{FoundIn, RowIn, lines_of}
 use Rattle.texts.proofs.LineLaws.{put_behind}
 
@@ -22,28 +22,28 @@ pub found : (text : List ℕ) (n : Number) {r : Decimal} {x next : ℕ} → Foun
     → (n ≡ number x (drop next text)) × (next ≤ length text)
 found text n h e = subst (λ (r : Decimal). FoundIn text n r) e h
 
-pub missing : (text : List ℕ) (n : Number) {r : Decimal} → FoundIn text n r → r ≡ Missing → n ≡ no_number_lem
+pub missing : (text : List ℕ) (n : Number) {r : Decimal} → FoundIn text n r → r ≡ Missing → n ≡ no_number
 missing text n h e = subst (λ (r : Decimal). FoundIn text n r) e h
 
 pub whole : (text : List ℕ) (l : Line) {r : Row} {a b c next : ℕ} → RowIn text l r → r ≡ Whole a b c next
     → (l ≡ line a b c (drop next text)) × (next ≤ length text)
 whole text l h e = subst (λ (r : Row). RowIn text l r) e h
 
-pub broken : (text : List ℕ) (l : Line) {r : Row} → RowIn text l r → r ≡ Broken → l ≡ no_line_lem
+pub broken : (text : List ℕ) (l : Line) {r : Row} → RowIn text l r → r ≡ Broken → l ≡ no_line
 broken text l h e = subst (λ (r : Row). RowIn text l r) e h
 
 -- a line by its numbers
 module _ (bytes : List ℕ) where
-  pub no_first : read_number space bytes ≡ no_number_lem → read_line bytes ≡ no_line_lem
+  pub no_first : read_number space bytes ≡ no_number → read_line bytes ≡ no_line
   unfolding read_line
   no_first e = rw e
 
-  pub no_second : {a : ℕ} {t : List ℕ} → read_number space bytes ≡ number a t → read_number space t ≡ no_number_lem → read_line bytes ≡ no_line_lem
+  pub no_second : {a : ℕ} {t : List ℕ} → read_number space bytes ≡ number a t → read_number space t ≡ no_number → read_line bytes ≡ no_line
   unfolding read_line
   no_second e f = rw (e, f)
 
   pub no_third : {a : ℕ} {t : List ℕ} {b : ℕ} {u : List ℕ} → read_number space bytes ≡ number a t → read_number space t ≡ number b u
-      → read_number newline u ≡ no_number_lem → read_line bytes ≡ no_line_lem
+      → read_number newline u ≡ no_number → read_line bytes ≡ no_line
   unfolding read_line
   no_third e f g = rw (e, f, g)
 
@@ -62,7 +62,7 @@ pub lines_next : (k : ℕ) (bytes : List ℕ) (a b c : ℕ) (t : List ℕ) → r
 lines_next k [] a b c t e = let z : ◌≡◌ {A = ℕ} 0 1 = cc (no_first [] refl) in absurd (omega arith)
 lines_next k (x ∷ bytes) a b c t e = rw e
 
-lines_broken : (k : ℕ) (bytes : List ℕ) → 0 < length bytes → read_line bytes ≡ no_line_lem → read_lines (suc k) bytes ≡ unreadable
+lines_broken : (k : ℕ) (bytes : List ℕ) → 0 < length bytes → read_line bytes ≡ no_line → read_lines (suc k) bytes ≡ unreadable
 lines_broken k [] h e = absurd (omega arith)
 lines_broken k (x ∷ bytes) h e = rw e
 
@@ -122,7 +122,7 @@ module _ {text table₀ table : List ℕ} {n at : ℕ} (r : Reached text table�
       let m : most_lines - n ≡ 0 = omega arith in
       stopped (rw m (lines_full (drop at text) (left_length k)))
 
-  pub reached_broken : n < most_lines → at < length text → read_line (drop at text) ≡ no_line_lem
+  pub reached_broken : n < most_lines → at < length text → read_line (drop at text) ≡ no_line
       → (Unreadable ≡ lines_of (read_text text)) × (table ≡ put table₀ 0 (read_text text).numbers)
   reached_broken h k e =
       let m : most_lines - n ≡ suc (most_lines - (n + 1)) = omega arith in

@@ -7,7 +7,7 @@ use native.Mathlib.Omega.{arith}
 use lib.ListN.{length, length-append}
 use Rattle.texts.specs.declared.Lines.TheVariants.{Rows, Unreadable}
 use Rattle.texts.specs.Printed.{row_text, table_text}
-use Rattle.texts.specs.Reading.{most_lines, number_limit, Table, Line, line, no_line_lem, read_line, Text, read_as, unreadable, behind_line, read_lines, read_text}
+use Rattle.texts.specs.Reading.{most_lines, number_limit, Table, Line, line, no_line, read_line, Text, read_as, unreadable, behind_line, read_lines, read_text}
 use Rattle.texts.specs.Answers.{lines_of}
 use Rattle.texts.proofs.DecimalLaws.{ten_digits}
 use Rattle.texts.proofs.TableLaws.{behind, lines_next}
@@ -65,7 +65,7 @@ lines_read (suc most) (x ∷ text) ns e = go (read_line (x ∷ text)) refl e (λ
     go : (l : Line) → read_line (x ∷ text) ≡ l → behind_line l (λ rest. read_lines most rest) ≡ read_as ns
         → ((rest ms : List ℕ) → read_lines most rest ≡ read_as ms → (rest ≡ table_text ms) × Table most ms)
         → (x ∷ text ≡ table_text ns) × Table (suc most) ns
-    go no_line_lem p q rest = absurd (not_readable unreadable ns refl q)
+    go no_line p q rest = absurd (not_readable unreadable ns refl q)
     go (line a b c t) p q rest =
         let ms : List ℕ = (read_lines most t).numbers in
         let f : a ∷ b ∷ c ∷ ms ≡ ns = ap (λ (s : Text). s.numbers) q in

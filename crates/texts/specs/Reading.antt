@@ -21,7 +21,7 @@ pub record Table (most : ℕ) (ns : List ℕ) : Type 0 where
 -- a number and the bytes behind it, or no number
 pub data Number : Type 0 where
   number : ℕ → List ℕ → Number
-  no_number_lem : Number
+  no_number : Number
 
 -- the byte of a digit
 abbrev pub is_digit : ℕ → Bool
@@ -37,31 +37,31 @@ is_following x b = is_digit b && (ltb 0 x && ltb (longer x b) number_limit)
 
 -- the digits that follow those of x, up to the byte `stop`
 abbrev pub read_more : ℕ → ℕ → List ℕ → Number
-read_more stop x [] = no_number_lem
-read_more stop x (b ∷ t) = cond (eqb b stop) (number x t) (cond (is_following x b) (read_more stop (longer x b) t) no_number_lem)
+read_more stop x [] = no_number
+read_more stop x (b ∷ t) = cond (eqb b stop) (number x t) (cond (is_following x b) (read_more stop (longer x b) t) no_number)
 
 -- a decimal and the byte `stop` behind it
 abbrev pub read_number : ℕ → List ℕ → Number
-read_number stop [] = no_number_lem
-read_number stop (b ∷ t) = cond (is_digit b) (read_more stop (b - 48) t) no_number_lem
+read_number stop [] = no_number
+read_number stop (b ∷ t) = cond (is_digit b) (read_more stop (b - 48) t) no_number
 
 -- the three numbers of a line and the bytes behind it, or no such line
 pub data Line : Type 0 where
   line : ℕ → ℕ → ℕ → List ℕ → Line
-  no_line_lem : Line
+  no_line : Line
 
 -- the third number, the second and the first, each in front of what follows it
 abbrev pub with_third : ℕ → ℕ → Number → Line
 with_third a b (number c t) = line a b c t
-with_third a b no_number_lem = no_line_lem
+with_third a b no_number = no_line
 
 abbrev pub with_second : ℕ → Number → Line
 with_second a (number b t) = with_third a b (read_number newline t)
-with_second a no_number_lem = no_line_lem
+with_second a no_number = no_line
 
 abbrev pub with_first : Number → Line
 with_first (number a t) = with_second a (read_number space t)
-with_first no_number_lem = no_line_lem
+with_first no_number = no_line
 
 -- three decimals, with single spaces and the newline
 unfoldable pub read_line : List ℕ → Line
@@ -82,7 +82,7 @@ unreadable = record { numbers = []; readable = false }
 -- a line in front of the rest of the text
 abbrev pub behind_line : Line → (List ℕ → Text) → Text
 behind_line (line a b c t) rest = record { numbers = a ∷ b ∷ c ∷ (rest t).numbers; readable = (rest t).readable }
-behind_line no_line_lem rest = unreadable
+behind_line no_line rest = unreadable
 
 -- at most n lines to the end of the text; an empty text has none
 abbrev pub read_lines : ℕ → List ℕ → Text
