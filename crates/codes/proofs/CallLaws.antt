@@ -145,7 +145,8 @@ sides_read left right = go (read left) (read right) refl refl
     go unsound empty e f = refl
     go unsound unsound e f = refl
 
-pub sides_kinds : (left right : List ℕ) (k m : Kind) (b : Bool) → kind_of (read left) ≡ k → kind_of (read right) ≡ m → is_below left right ≡ b
+pub sides_kinds : (left right : List ℕ) (k m : Kind) (b : Bool) → kind_of (read left) ≡ k → kind_of (read right) ≡ m
+    → is_below left right ≡ b
     → sides_as k m b ≡ sides_of (read left) (read right)
 sides_kinds left right k m b e f g = sym (sides_read left right ∙ cc (e, f, g))
 

@@ -56,7 +56,8 @@ is_closed_append [] y = go (is_zeros y) refl (is_closed y) refl
     go false e true f = refl
     go false e false f = refl
 is_closed_append (d ∷ x) y =
-    rw (is_zeros_append x y, is_closed_append x y) (go (is_zeros x) (is_zeros y) (leb 2 d) (is_closed x) (is_closed y) (is_firm x) (not (eqb d 0)))
+    rw (is_zeros_append x y, is_closed_append x y)
+    (go (is_zeros x) (is_zeros y) (leb 2 d) (is_closed x) (is_closed y) (is_firm x) (not (eqb d 0)))
   where
     go : (p q l s t f n : Bool) → cond (p && q) l (cond q s (t && f) && n) ≡ cond q (cond p l (s && n)) (t && (f && n))
     go true true l s t f n = refl
@@ -71,7 +72,8 @@ is_closed_four : (x y z w : Digits)
     (cond (is_zeros z) (cond (is_zeros y) (is_closed x) (is_closed y && is_firm x)) (is_closed z && (is_firm y && is_firm x)))
     (is_closed w && (is_firm z && (is_firm y && is_firm x)))
 is_closed_four x y z w =
-    rw (is_closed_append (x ++ y ++ z) w, is_closed_append (x ++ y) z, is_closed_append x y, is_firm_append (x ++ y) z, is_firm_append x y) refl
+    rw (is_closed_append (x ++ y ++ z) w, is_closed_append (x ++ y) z, is_closed_append x y, is_firm_append (x ++ y) z, is_firm_append x y)
+    refl
 
 -- The digits of a number.
 
@@ -191,7 +193,8 @@ module _ (b : List ℕ) (size : length b ≡ field_size) (bytes : Bytes b) where
   last_digit : get_or (spread b) 127 0 ≡ word_at b 24 % 4
   last_digit = spread_fourth b 31 ∙ omega arith
 
-  pub is_packed_closed : is_packed (word_at b 0) (word_at b 8) (word_at b 16) (word_at b 24) ≡ eqb (get_or (spread b) 127 0) 0 && is_closed (spread b)
+  pub is_packed_closed : is_packed (word_at b 0) (word_at b 8) (word_at b 16) (word_at b 24)
+      ≡ eqb (get_or (spread b) 127 0) 0 && is_closed (spread b)
   is_packed_closed =
       let zero = word_zero b bytes in
       let firm = word_full b bytes in

@@ -55,7 +55,8 @@ Told b unsound = Unit {0}
 
 told : (b : List ℕ) → Told b (read b)
 unfolding read
-told b = go (lead (spread b)) (is_same b (field_of (lead (spread b)))) refl (is_code (lead (spread b))) refl (is_same (lead (spread b)) []) refl
+told b =
+    go (lead (spread b)) (is_same b (field_of (lead (spread b)))) refl (is_code (lead (spread b))) refl (is_same (lead (spread b)) []) refl
   where
     go : (x : Digits) (s : Bool) → is_same b (field_of x) ≡ s → (t : Bool) → is_code x ≡ t → (u : Bool) → is_same x [] ≡ u
         → Told b (cond s (cond t (code x) (cond u empty unsound)) unsound)
@@ -91,7 +92,8 @@ is_same_field x y s t = go (is_same (field_of x) (field_of y)) (is_same x y) ref
         let e = sym (lead_side x s) ∙ ap (λ (z : List ℕ). lead (spread z)) (is_same_true (field_of x) (field_of y) p) ∙ lead_side y t in
         absurd (false≢true (sym q ∙ ap (is_same x) (sym e) ∙ is_same_refl x))
     go false true p q =
-        absurd (false≢true (sym p ∙ ap (λ (z : Digits). is_same (field_of x) (field_of z)) (sym (is_same_true x y q)) ∙ is_same_refl (field_of x)))
+        absurd (false≢true
+        (sym p ∙ ap (λ (z : Digits). is_same (field_of x) (field_of z)) (sym (is_same_true x y q)) ∙ is_same_refl (field_of x)))
 
 pub first_zero : (x : Digits) → Sided x → get_or (field_of x) 0 0 ≡ 0 → x ≡ []
 unfolding field_of

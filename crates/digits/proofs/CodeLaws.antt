@@ -43,7 +43,8 @@ module _ (least symbols : ℕ) where
   gives_is_formed (a ∷ []) s = gives_and (ltb least a) (ltb a (least + symbols)) (lt→ltb least a s.0) (lt→ltb a (least + symbols) s.1)
   gives_is_formed (a ∷ b ∷ x) s =
       gives_and (leb least a && ltb a (least + symbols)) (is_formed least symbols (b ∷ x))
-      (gives_and (leb least a) (ltb a (least + symbols)) (le→leb least a s.0) (lt→ltb a (least + symbols) s.1)) (gives_is_formed (b ∷ x) s.2)
+      (gives_and (leb least a) (ltb a (least + symbols)) (le→leb least a s.0) (lt→ltb a (least + symbols) s.1))
+      (gives_is_formed (b ∷ x) s.2)
 
   -- the test, digit by digit from the front
   pub is_formed_step : (x : Digits) (i : ℕ) → i + 1 < length x

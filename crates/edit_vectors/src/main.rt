@@ -16,7 +16,6 @@ const FILL: u8 = 90;
 const WORKED: [u32; 12] = [10, 1, 0, 11, 2, 1, 12, 2, 1, 13, 3, 2];
 
 // Where a register grows: each new entry is the root's first child, the first child of the last one, or after the last one.
-#[derive(Drop)]
 #[derive(Clone, Copy)]
 enum Way {
     Root,

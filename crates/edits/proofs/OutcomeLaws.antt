@@ -167,7 +167,8 @@ module _ (b : List ℕ) (P : Outcome → Type 0) (other : (r : Refusal) → (num
           (λ r. y i (record { sound = e; target = k; parented = p; new = f; level = leb-true _ deepest d; room = r })))))
 
   pub delete_cases : (t : ℕ)
-      → ((i : ℕ) → is_register_sound b ≡ true → found_in b t ≡ At i → 0 < i → is_leaf i (tree_in b) ≡ true → P (accepted i (deleted_bytes b i)))
+      → ((i : ℕ) → is_register_sound b ≡ true → found_in b t ≡ At i → 0 < i → is_leaf i (tree_in b) ≡ true
+      → P (accepted i (deleted_bytes b i)))
       → P (delete_outcome b t)
   unfolding delete_outcome
   delete_cases t y = test (is_register_sound b) Register _ (λ n. omega arith) (λ e. go e (found_in b t) refl)

@@ -24,7 +24,8 @@ use Rattle.labels.specs.Questions.{order, is_above, is_orphan, is_parent, is_sib
 use Rattle.labels.proofs.LabelLaws.{Sound, sound_gives}
 
 -- a refusal, or the answer
-pub asked_refused : (u v : List ℕ) (answer : ℤ) → (is_sound u && is_sound v) ≡ false → refused_as (number_of refusals.Label) ≡ asked u v answer
+pub asked_refused : (u v : List ℕ) (answer : ℤ) → (is_sound u && is_sound v) ≡ false
+    → refused_as (number_of refusals.Label) ≡ asked u v answer
 unfolding asked
 asked_refused u v answer e = sym (rw e refl)
 

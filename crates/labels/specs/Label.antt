@@ -52,4 +52,5 @@ is_sound_as unsound end parent = false
 -- 01, refusal 11: a sound label has exactly 96 bytes
 unfoldable pub is_sound : List ℕ → Bool
 is_sound bytes =
-    eqb (length bytes) label_size && is_sound_as (read (field_at start_at bytes)) (read (field_at end_at bytes)) (read (field_at parent_at bytes))
+    eqb (length bytes) label_size
+    && is_sound_as (read (field_at start_at bytes)) (read (field_at end_at bytes)) (read (field_at parent_at bytes))

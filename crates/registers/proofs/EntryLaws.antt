@@ -32,7 +32,8 @@ entries_length (u ∷ us) =
 pub entries_append : (us vs : List (Entry Name)) → entries_bytes (us ++ vs) ≡ entries_bytes us ++ entries_bytes vs
 entries_append [] vs = refl
 entries_append (u ∷ us) vs =
-    ap (λ (b : List ℕ). entry_bytes u ++ b) (entries_append us vs) ∙ sym (append_assoc (entry_bytes u) (entries_bytes us) (entries_bytes vs))
+    ap (λ (b : List ℕ). entry_bytes u ++ b) (entries_append us vs)
+    ∙ sym (append_assoc (entry_bytes u) (entries_bytes us) (entries_bytes vs))
 
 pub register_length : (us : List (Entry Name)) → length (register_bytes us) ≡ entry_place (length us)
 register_length us = let e = entries_length us in omega arith

@@ -134,7 +134,8 @@ module _ (b : List ℕ) where
 pub line_at_lem : (b : List ℕ) (m i j : ℕ) (d : Entry Name) → j < m → get_or (lines_from b i m) j d ≡ line_at b (i + j)
 line_at_lem b zero i j d h = absurd (omega arith)
 line_at_lem b (suc m) i zero d h = let e : i + 0 ≡ i = omega arith in ap (line_at b) (sym e)
-line_at_lem b (suc m) i (suc j) d h = let e : suc i + j ≡ i + suc j = omega arith in line_at_lem b m (suc i) j d (omega arith) ∙ ap (line_at b) e
+line_at_lem b (suc m) i (suc j) d h =
+    let e : suc i + j ≡ i + suc j = omega arith in line_at_lem b m (suc i) j d (omega arith) ∙ ap (line_at b) e
 
 identities_more : (b : List ℕ) (m i : ℕ)
     → identities (lines_from b i (suc m)) ≡ identities (lines_from b i m) ++ ((line_at b (i + m)).name.identity ∷ [])

@@ -77,7 +77,8 @@ nothing_below (d ∷ r) c = refl
 -- what is asked of a line whose label is sound
 entry_test : (b : List ℕ) (i k : ℕ) (p l r : Digits) → HasPlace b i → is_sound_label b i ≡ true → IsCode r
     → is_entry k p l r (line_at b i)
-    ≡ (ltb 0 k && (is_below l (code_at b (start_place i)) && (is_below (code_at b (end_place i)) r && is_same (code_at b (parent_place i)) p)))
+    ≡ (ltb 0 k
+    && (is_below l (code_at b (start_place i)) && (is_below (code_at b (end_place i)) r && is_same (code_at b (parent_place i)) p)))
 entry_test b i k p l r h t c =
     let s = sound_at b i h t in
     rw (
@@ -208,7 +209,8 @@ module _ (b : List ℕ) (n parent depth : ℕ) (l : Digits) (i : ℕ) (labels : 
     row_to next g = go (is_entry k p l r (line_at b i)) refl g
       where
         go : (o : Bool) → is_entry k p l r (line_at b i) ≡ o
-            → cond o (children_from b n i (depth + 1) (code_at b (start_place i)) (i + 1)) Unsound ≡ To next → Went b n parent depth l i next
+            → cond o (children_from b n i (depth + 1) (code_at b (start_place i)) (i + 1)) Unsound ≡ To next
+            → Went b n parent depth l i next
         go true o g = went next inner refl (sym inner_is ∙ g) (row_then b n k p l r i h coded label f o)
         go false o g = never g
 

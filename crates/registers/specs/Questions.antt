@@ -81,4 +81,5 @@ distance_as (At i) Nothing = refused_as (number_of Target)
 distance_as Nothing found = refused_as (number_of Target)
 
 unfoldable pub distance_answer : List ℕ → ℕ → ℕ → ℤ
-distance_answer bytes x y = cond (is_register_sound bytes) (distance_as (found_in bytes x) (found_in bytes y)) (refused_as (number_of Register))
+distance_answer bytes x y =
+    cond (is_register_sound bytes) (distance_as (found_in bytes x) (found_in bytes y)) (refused_as (number_of Register))

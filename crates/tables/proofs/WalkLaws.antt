@@ -128,7 +128,8 @@ ready_walked t [] w r = r
 ready_walked t (x ∷ xs) w r = ready_walked t xs (stepped t x w) (ready_stepped r x)
 
 -- the parent start and then the rest of an entry that is begun are its bytes
-pub begun_bytes_lem : (t : List ℕ) (row i g : ℕ) (x : Digits) (b p b₁ b₂ : List ℕ) → HasPlace b row → i ≡ identity_of t row → g ≡ tag_of t row
+pub begun_bytes_lem : (t : List ℕ) (row i g : ℕ) (x : Digits) (b p b₁ b₂ : List ℕ) → HasPlace b row → i ≡ identity_of t row
+    → g ≡ tag_of t row
     → b₁ ≡ put b (parent_place row) p → b₂ ≡ put b₁ (entry_place row) (le4 i ++ (le4 g ++ (field_of x ++ field_of [])))
     → b₂ ≡ put b (entry_place row) (begun_bytes t row x p)
 begun_bytes_lem t row i g x b p b₁ b₂ h ei eg e f =

@@ -24,7 +24,9 @@ made c =
     c.step-made.ensures.held
 
 pub returns-then-field-lt-FIELD : goal.returns-then-field-lt-FIELD
-returns-then-field-lt-FIELD c = let t = gives _ _ _ _ _ (between_short c.args.left.now c.args.right.now c.args.field.now c.requires.ordered c.if-field-lt-FIELD.true) refl refl in
+returns-then-field-lt-FIELD c =
+    let t = gives _ _ _ _ _
+    (between_short c.args.left.now c.args.right.now c.args.field.now c.requires.ordered c.if-field-lt-FIELD.true) refl refl in
     record { answer = t.0; bytes = t.1 }
 
 pub of_field-requires : goal.of_field-requires
@@ -54,8 +56,9 @@ write_field-requires c = let h = made (goal.at.write_field-requires c).After-ste
     }
 
 pub returns : goal.returns
-returns c = let t = let h = made (goal.at.returns c).After-step-made in
-    gives _ _ _ _ _
+returns c =
+    let h = made (goal.at.returns c).After-step-made in
+    let t = gives _ _ _ _ _
     (between_written c.args.left.now c.args.right.now c.args.field.now c.requires.ordered c.if-field-lt-FIELD.false
     (omega (arith, h.count))) (ap Accepted h.count)
     (c.write_field.ensures.bytes ∙ ap (λ (x : List ℕ). put c.args.field.now 0 (field_of x)) h.digits) in

@@ -22,13 +22,16 @@ pub of_field-code-requires : goal.of_field-code-requires
 of_field-code-requires c = record { whole = (held_known _ c.requires.held).size }
 
 pub returns-then-digits-n : goal.returns-then-digits-n
-returns-then-digits-n c = let t = let k : length c.args.digits.now < length (side_of (read c.args.field.now)) = omega (arith, (digits (goal.at.returns-then-digits-n c).After-of_field-code).count) in
-    gives _ _ _ _ _ (unpack_short c.args.field.now c.args.digits.now _ (held_code _ c.requires.held) k) refl refl in
+returns-then-digits-n c =
+    let h = digits (goal.at.returns-then-digits-n c).After-of_field-code in
+    let k : length c.args.digits.now < length (side_of (read c.args.field.now)) = omega (arith, h.count) in
+    let t = gives _ _ _ _ _ (unpack_short c.args.field.now c.args.digits.now _ (held_code _ c.requires.held) k) refl refl in
     record { answer = t.0; bytes = t.1 }
 
 pub returns : goal.returns
-returns c = let t = let h = digits (goal.at.returns c).After-of_field-code in
+returns c =
+    let h = digits (goal.at.returns c).After-of_field-code in
     let k : length (side_of (read c.args.field.now)) ≤ length c.args.digits.now = omega (arith, h.count) in
-    gives _ _ _ _ _ (unpack_written c.args.field.now c.args.digits.now _ (held_code _ c.requires.held) k) (ap Accepted h.count)
+    let t = gives _ _ _ _ _ (unpack_written c.args.field.now c.args.digits.now _ (held_code _ c.requires.held) k) (ap Accepted h.count)
     (c.copy.ensures.bytes ∙ ap (put c.args.digits.now 0) h.digits) in
     record { answer = t.0; bytes = t.1 }

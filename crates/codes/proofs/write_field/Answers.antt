@@ -17,7 +17,8 @@ loop-i-init c = let k = c.clear in
     (omega arith, c.new-packer.ensures.nothing ∙ sym pushes_nil, field_none _ _ k.ensures.bytes, refl)
 
 pub push-packer-requires : goal.push-packer-requires
-push-packer-requires c = record { pushable = next_pushable c.args.digits.now c.loop-i.i c.requires.slots (omega arith) _ c.loop-i.invariant.1 }
+push-packer-requires c =
+    record { pushable = next_pushable c.args.digits.now c.loop-i.i c.requires.slots (omega arith) _ c.loop-i.invariant.1 }
 
 pub loop-i-preserved : goal.loop-i-preserved
 loop-i-preserved c = let x = c.args.digits.now in

@@ -6,8 +6,9 @@ use Rattle.edits.proofs.OutcomeLaws.{delete_unsound, delete_absent, delete_found
 use Rattle.edits.proofs.delete.Goals as goal
 
 pub returns-then-not-sound : goal.returns-then-not-sound
-returns-then-not-sound c = let t = let a = c.args in
-    gives _ _ _ _ _ (delete_unsound a.register.now a.target (sym c.sound.ensures.sound ∙ c.if-not-sound.true)) refl refl in
+returns-then-not-sound c =
+    let a = c.args in
+    let t = gives _ _ _ _ _ (delete_unsound a.register.now a.target (sym c.sound.ensures.sound ∙ c.if-not-sound.true)) refl refl in
     record { answer = t.0; bytes = t.1 }
 
 pub find-requires : goal.find-requires
@@ -17,8 +18,9 @@ find-requires c = record {
 }
 
 pub returns-in_default : goal.returns-in_default
-returns-in_default c = let t = let a = c.args in
-    gives _ _ _ _ _
+returns-in_default c =
+    let a = c.args in
+    let t = gives _ _ _ _ _
     (delete_absent a.register.now a.target (sym c.sound.ensures.sound ∙ c.if-not-sound.false)
     (sym c.find.ensures.found ∙ c.in_default.is)) refl refl in
     record { answer = t.0; bytes = t.1 }
@@ -30,9 +32,10 @@ delete_at-requires c = let a = c.args in record {
 }
 
 pub returns : goal.returns
-returns c = let t = let a = c.args in
+returns c =
+    let a = c.args in
     let d = c.delete_at.ensures in
-    gives _ _ _ _ _
+    let t = gives _ _ _ _ _
     (delete_found_lem a.register.now a.target (sym c.sound.ensures.sound ∙ c.if-not-sound.false) _
     (sym c.find.ensures.found ∙ c.in-At.is)) d.answer d.bytes in
     record { answer = t.0; bytes = t.1 }

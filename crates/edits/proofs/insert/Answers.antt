@@ -9,9 +9,10 @@ use Rattle.edits.proofs.OutcomeLaws.{insert_unsound, insert_absent, insert_found
 use Rattle.edits.proofs.insert.Goals as goal
 
 pub returns-then-not-sound : goal.returns-then-not-sound
-returns-then-not-sound c = let t = let a = c.args in
+returns-then-not-sound c =
+    let a = c.args in
     let m : Name = record { identity = a.identity; tag = a.tag } in
-    gives _ _ _ _ _
+    let t = gives _ _ _ _ _
     (insert_unsound a.register.now (where_of a.place) (target_of a.place) m
     (sym c.sound.ensures.sound ∙ c.if-not-sound.true))
     refl refl in
@@ -24,9 +25,10 @@ find-requires c = record {
 }
 
 pub returns-in_default : goal.returns-in_default
-returns-in_default c = let t = let a = c.args in
+returns-in_default c =
+    let a = c.args in
     let m : Name = record { identity = a.identity; tag = a.tag } in
-    gives _ _ _ _ _
+    let t = gives _ _ _ _ _
     (insert_absent a.register.now (where_of a.place) (target_of a.place) m
     (sym c.sound.ensures.sound ∙ c.if-not-sound.false)
     (ap (found_in a.register.now) (sym c.target_of.ensures.target) ∙ sym c.find.ensures.found ∙ c.in_default.is)) refl refl in
@@ -39,10 +41,11 @@ insert_at-requires c = let a = c.args in record {
 }
 
 pub returns : goal.returns
-returns c = let t = let a = c.args in
+returns c =
+    let a = c.args in
     let m : Name = record { identity = a.identity; tag = a.tag } in
     let i = c.insert_at.ensures in
-    gives _ _ _ _ _
+    let t = gives _ _ _ _ _
     (insert_found_lem a.register.now (where_of a.place) (target_of a.place) m
     (sym c.sound.ensures.sound ∙ c.if-not-sound.false) _
     (ap (found_in a.register.now) (sym c.target_of.ensures.target) ∙ sym c.find.ensures.found ∙ c.in-At.is)) i.answer i.bytes in

@@ -7,7 +7,8 @@ use Rattle.edits.proofs.PlaceLaws.{level_inside, level_beside}
 use Rattle.edits.proofs.level.Goals as goal
 
 pub overflow_add-result : goal.overflow_add-result
-overflow_add-result c = omega (arith, c.depth_at-depth.ensures.depth, depth_bound c.args.register.now c.args.at, (sized_of _ c.requires.sound).most)
+overflow_add-result c =
+    omega (arith, c.depth_at-depth.ensures.depth, depth_bound c.args.register.now c.args.at, (sized_of _ c.requires.sound).most)
 
 pub returns-then-inside : goal.returns-then-inside
 returns-then-inside c = record {

@@ -27,7 +27,9 @@ returns-then-up c = let b = c.args.register.now in
     let u = sym c.upward-up.ensures.upward ∙ c.if-up.true in record {
       codes = (subst (CodeAt b) (sym c.own_place-own.ensures.place) (own_at b c.requires.sound w i h), c.nearest-other.ensures.code);
       left = ap (code_at b) c.own_place-own.ensures.place ∙ sym (own_side b c.requires.sound w i h true u);
-      right = other_side b c.requires.sound w i h c.requires.parented c.nearest-other.result _ _ c.upward-up.ensures.upward c.own_place-own.ensures.place true u
+      right =
+          other_side b c.requires.sound w i h c.requires.parented c.nearest-other.result _ _ c.upward-up.ensures.upward
+          c.own_place-own.ensures.place true u
           c.nearest-other.ensures.nearest;
     }
 
@@ -38,7 +40,9 @@ returns c = let b = c.args.register.now in
     let h = c.requires.at in
     let u = sym c.upward-up.ensures.upward ∙ c.if-up.false in record {
       codes = (c.nearest-other.ensures.code, subst (CodeAt b) (sym c.own_place-own.ensures.place) (own_at b c.requires.sound w i h));
-      left = other_side b c.requires.sound w i h c.requires.parented c.nearest-other.result _ _ c.upward-up.ensures.upward c.own_place-own.ensures.place false u
+      left =
+          other_side b c.requires.sound w i h c.requires.parented c.nearest-other.result _ _ c.upward-up.ensures.upward
+          c.own_place-own.ensures.place false u
           c.nearest-other.ensures.nearest;
       right = ap (code_at b) c.own_place-own.ensures.place ∙ sym (own_side b c.requires.sound w i h false u);
     }

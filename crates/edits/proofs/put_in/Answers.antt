@@ -36,7 +36,8 @@ ended : (c : After-step-end) →
     let a = c.args in
     let f = tree_in a.register.now in
     let q = spot_of (where_of a.place) a.at f in
-    Held c.step-start.result (start_of (left_of starts ends f q) (right_of starts ends f q)) → Held c.step-end.result (end_of (left_of starts ends f q) (right_of starts ends f q))
+    Held c.step-start.result (start_of (left_of starts ends f q) (right_of starts ends f q))
+    → Held c.step-end.result (end_of (left_of starts ends f q) (right_of starts ends f q))
 ended c s =
     let n = c.neighbours-gap.ensures in
     held_step c.step-start.result c.code_at-right.result _ _ _
@@ -62,13 +63,15 @@ write_in-requires c = let b = c.args.register.now in
       place = c.starts_below-i.ensures.most;
       codes = (
         held_code _ _ (started (goal.at.write_in-requires c).After-step-start) n.0 (omega (arith, c.len.ensures.len)),
-        held_code _ _ (ended (goal.at.write_in-requires c).After-step-end (started (goal.at.write_in-requires c).After-step-start)) n.1 (omega (arith, c.len-2.ensures.len)),
+        held_code _ _ (ended (goal.at.write_in-requires c).After-step-end (started (goal.at.write_in-requires c).After-step-start)) n.1
+            (omega (arith, c.len-2.ensures.len)),
         subst IsCode (sym c.code_at-parent.ensures.held.digits) p.1,
       );
     }
 
 pub returns : goal.returns
-returns c = let t = let b = c.args.register.now in
+returns c =
+    let b = c.args.register.now in
     let w = where_of c.args.place in
     let i = c.args.at in
     let m : Name = record { identity = c.args.identity; tag = c.args.tag } in
@@ -79,7 +82,7 @@ returns c = let t = let b = c.args.register.now in
     let e = ended (goal.at.returns c).After-step-end (started (goal.at.returns c).After-step-start) in
     let k = c.starts_below-i.ensures.starts ∙ ap (λ (r : Digits). leading r (lines_of b)) g.right
     ∙ found_place b c.requires.sound w i c.requires.at c.requires.parented in
-    gives _ _ _ _ _
+    let t = gives _ _ _ _ _
     (put_done b m f (spot_of w i f) (omega (arith, s.count, c.len.ensures.len, c.if-len-gt-LONGEST.false))
     (omega (arith, e.count, c.len-2.ensures.len, c.if-len-gt-LONGEST-2.false)))
     (ap Accepted k)

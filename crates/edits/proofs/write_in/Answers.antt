@@ -9,7 +9,8 @@ pub returns : goal.returns
 returns c = record {
   bytes = let b = c.args.register.now in
       let r = room_for b c.requires.room in
-      insert_writes b _ _ _ _ c.count-n.result c.args.i _ _ _ c.count-n.ensures.count (omega (arith, c.count-n.ensures.count, c.requires.place))
+      insert_writes b _ _ _ _ c.count-n.result c.args.i _ _ _ c.count-n.ensures.count
+      (omega (arith, c.count-n.ensures.count, c.requires.place))
       (omega (arith, c.count-n.ensures.count, r.1)) c.entry_place.ensures.place c.entry_place-2.ensures.place refl
       c.move_up.ensures.bytes
       c.write_entry.ensures.bytes c.write_header.ensures.bytes;

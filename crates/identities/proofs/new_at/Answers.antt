@@ -34,6 +34,8 @@ entered k r e =
 pub returns-in-New : goal.returns-in-New
 returns-in-New c = let h = entered (goal.at.returns-in-New c).After-enter _ c.in-New.is in
     record {
-      fresh = sym (fresh_some (identity (goal.at.returns-in-New c).After-enter) (used (goal.at.returns-in-New c).After-enter) (some (goal.at.returns-in-New c).After-enter) ∙ ap not h.0);
+      fresh =
+          sym (fresh_some (identity (goal.at.returns-in-New c).After-enter) (used (goal.at.returns-in-New c).After-enter)
+          (some (goal.at.returns-in-New c).After-enter) ∙ ap not h.0);
       held = λ e. h.1;
     }

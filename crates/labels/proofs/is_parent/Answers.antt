@@ -11,4 +11,8 @@ pub field-requires-2 : goal.field-requires-2
 field-requires-2 c = record { inside = omega (arith, (sound_gives _ c.requires.sound.0).size) }
 
 pub returns : goal.returns
-returns c = record { parent = parent_same _ _ c.requires.sound.0 c.requires.sound.1 _ _ _ c.field.ensures.part c.field-2.ensures.part c.same.ensures.same }
+returns c =
+    record {
+      parent =
+          parent_same _ _ c.requires.sound.0 c.requires.sound.1 _ _ _ c.field.ensures.part c.field-2.ensures.part c.same.ensures.same;
+    }

@@ -28,7 +28,8 @@ returns-then-same-2 c = record {
       sibling_by _ _ s t c.if-u-eq0.false
       (parents_same _ _ s t _ _ _ c.field.ensures.part c.field-2.ensures.part c.same.ensures.same
       ∙ c.if-same.true) true
-      (starts_same _ _ s t _ _ _ c.field-then-same.ensures.part c.field-then-same-2.ensures.part c.same-then-same.ensures.same ∙ c.if-same-2.true);
+      (starts_same _ _ s t _ _ _ c.field-then-same.ensures.part c.field-then-same-2.ensures.part c.same-then-same.ensures.same
+      ∙ c.if-same-2.true);
 }
 
 pub returns-then-same : goal.returns-then-same
@@ -38,7 +39,8 @@ returns-then-same c = record {
       sibling_by _ _ s t c.if-u-eq0.false
       (parents_same _ _ s t _ _ _ c.field.ensures.part c.field-2.ensures.part c.same.ensures.same
       ∙ c.if-same.true) false
-      (starts_same _ _ s t _ _ _ c.field-then-same.ensures.part c.field-then-same-2.ensures.part c.same-then-same.ensures.same ∙ c.if-same-2.false);
+      (starts_same _ _ s t _ _ _ c.field-then-same.ensures.part c.field-then-same-2.ensures.part c.same-then-same.ensures.same
+      ∙ c.if-same-2.false);
 }
 
 pub returns : goal.returns

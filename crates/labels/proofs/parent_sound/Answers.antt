@@ -5,7 +5,9 @@ use Rattle.labels.proofs.LabelLaws.{parent_code}
 use Rattle.labels.proofs.parent_sound.Goals as goal
 
 pub below-requires : goal.below-requires
-below-requires c = record { whole = ((held_known _ (sym c.holds_code.ensures.code ∙ c.if-holds_code.true)).size, (held_known _ c.requires.start).size) }
+below-requires c =
+    record { whole = ((held_known _ (sym c.holds_code.ensures.code ∙ c.if-holds_code.true)).size, (held_known _ c.requires.start).size) }
 
 pub returns-then-holds_code : goal.returns-then-holds_code
-returns-then-holds_code c = record { sound = c.below.ensures.order ∙ parent_code _ _ (sym c.holds_code.ensures.code ∙ c.if-holds_code.true) c.requires.start }
+returns-then-holds_code c =
+    record { sound = c.below.ensures.order ∙ parent_code _ _ (sym c.holds_code.ensures.code ∙ c.if-holds_code.true) c.requires.start }

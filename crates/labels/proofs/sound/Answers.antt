@@ -39,17 +39,28 @@ returns-then-below c = record {
       subst₂ (λ (x y : List ℕ). r ≡ is_parent_sound (read x) (side_of (read y))) c.field-parent.ensures.part c.field-start.ensures.part
       c.parent_sound.ensures.sound
       ∙ sound_parent _ c.if-label-ne-LABEL.false (start_held (goal.at.returns-then-below c).After-holds_code _ c.if-holds_code.true)
-      (end_held (goal.at.returns-then-below c).After-holds_code-then-holds_code _ c.if-holds_code-2.true) (span_held (goal.at.returns-then-below c).After-below _ c.if-below.true);
+      (end_held (goal.at.returns-then-below c).After-holds_code-then-holds_code _ c.if-holds_code-2.true)
+      (span_held (goal.at.returns-then-below c).After-below _ c.if-below.true);
 }
 
 pub returns-else-below : goal.returns-else-below
 returns-else-below c = record {
   sound = sound_span _ c.if-label-ne-LABEL.false (start_held (goal.at.returns-else-below c).After-holds_code _ c.if-holds_code.true)
-      (end_held (goal.at.returns-else-below c).After-holds_code-then-holds_code _ c.if-holds_code-2.true) (span_held (goal.at.returns-else-below c).After-below _ c.if-below.false);
+      (end_held (goal.at.returns-else-below c).After-holds_code-then-holds_code _ c.if-holds_code-2.true)
+      (span_held (goal.at.returns-else-below c).After-below _ c.if-below.false);
 }
 
 pub returns-else-holds_code-2 : goal.returns-else-holds_code-2
-returns-else-holds_code-2 c = record { sound = sound_end _ c.if-label-ne-LABEL.false (end_held (goal.at.returns-else-holds_code-2 c).After-holds_code-then-holds_code _ c.if-holds_code-2.false) }
+returns-else-holds_code-2 c =
+    record {
+      sound =
+          sound_end _ c.if-label-ne-LABEL.false
+          (end_held (goal.at.returns-else-holds_code-2 c).After-holds_code-then-holds_code _ c.if-holds_code-2.false);
+    }
 
 pub returns-else-holds_code : goal.returns-else-holds_code
-returns-else-holds_code c = record { sound = sound_start _ c.if-label-ne-LABEL.false (start_held (goal.at.returns-else-holds_code c).After-holds_code _ c.if-holds_code.false) }
+returns-else-holds_code c =
+    record {
+      sound =
+          sound_start _ c.if-label-ne-LABEL.false (start_held (goal.at.returns-else-holds_code c).After-holds_code _ c.if-holds_code.false);
+    }

@@ -15,6 +15,7 @@ returns c = record {
   bytes = let e : c.entry_place-place.result ≡ entry_place c.args.i = c.entry_place-place.ensures.place in
       four_runs c.args.register.now _ _ _ _ (le4 c.args.identity) (le4 c.args.tag) (field_of (digits_of c.args.start))
       (field_of []) (entry_place c.args.i) _ _ _ _ (omega arith) (omega arith) (omega arith) (omega arith)
-      (omega (arith, field_length (digits_of c.args.start))) c.write_u32.ensures.bytes c.write_u32-2.ensures.bytes c.write_code.ensures.bytes
+      (omega (arith, field_length (digits_of c.args.start))) c.write_u32.ensures.bytes c.write_u32-2.ensures.bytes
+      c.write_code.ensures.bytes
       (c.clear.ensures.bytes ∙ ap (put _ _) field_empty);
 }

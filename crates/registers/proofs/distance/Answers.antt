@@ -24,7 +24,8 @@ pub returns-in_default : goal.returns-in_default
 returns-in_default c = record {
   answer = let a = c.args in
       read_back w32 _ c.signed-in_default.type_inv ∙ c.signed-in_default.ensures.signed
-      ∙ distance_none a.register.now a.x a.y (sym c.sound.ensures.sound ∙ c.if-not-sound.false) (sym c.in_default.is ∙ c.find.ensures.found);
+      ∙ distance_none a.register.now a.x a.y (sym c.sound.ensures.sound ∙ c.if-not-sound.false)
+      (sym c.in_default.is ∙ c.find.ensures.found);
 }
 
 pub find-requires-2 : goal.find-requires-2

@@ -15,7 +15,8 @@ pub returns-then-not-new_identities : goal.returns-then-not-new_identities
 returns-then-not-new_identities c = record {
   sound = let b = c.args.register.now in
       not_new b (sym c.sized.ensures.sized ∙ c.if-not-sized.false)
-      (sym (c.new_identities.ensures.new ∙ ap (λ (k : ℕ). is_all_new (identities (lines_from b 0 k))) c.count-n.ensures.count) ∙ c.if-not-new_identities.true);
+      (sym (c.new_identities.ensures.new ∙ ap (λ (k : ℕ). is_all_new (identities (lines_from b 0 k))) c.count-n.ensures.count)
+      ∙ c.if-not-new_identities.true);
 }
 
 pub returns : goal.returns
@@ -23,5 +24,6 @@ returns c = record {
   sound = let b = c.args.register.now in
       c.tree.ensures.tree ∙ ap (is_tree b) c.count-n.ensures.count
       ∙ by_tree b (sym c.sized.ensures.sized ∙ c.if-not-sized.false)
-      (sym (c.new_identities.ensures.new ∙ ap (λ (k : ℕ). is_all_new (identities (lines_from b 0 k))) c.count-n.ensures.count) ∙ c.if-not-new_identities.false);
+      (sym (c.new_identities.ensures.new ∙ ap (λ (k : ℕ). is_all_new (identities (lines_from b 0 k))) c.count-n.ensures.count)
+      ∙ c.if-not-new_identities.false);
 }

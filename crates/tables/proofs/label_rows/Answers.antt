@@ -12,7 +12,9 @@ pub overflow_add-size : goal.overflow_add-size
 overflow_add-size c = omega (arith, count_most c.args.table.now c.args.n c.requires.accepted)
 
 pub returns-then-register-size : goal.returns-then-register-size
-returns-then-register-size c = let t = gives _ _ _ _ _ (outcome_short c.args.table.now c.args.n c.requires.accepted c.args.register.now c.if-register-size.true) refl refl in
+returns-then-register-size c =
+    let t = gives _ _ _ _ _
+    (outcome_short c.args.table.now c.args.n c.requires.accepted c.args.register.now c.if-register-size.true) refl refl in
     record { answer = t.0; bytes = t.1 }
 
 pub write_header-requires : goal.write_header-requires
@@ -32,9 +34,10 @@ gap-requires c = let t = c.args.table.now in record {
 }
 
 pub returns : goal.returns
-returns c = let t = let t = c.args.table.now in
+returns c =
+    let t = c.args.table.now in
     let b = c.args.register.now in
-    gives _ _ _ _ _ (outcome_written t c.args.n c.requires.accepted b (omega arith)) refl
+    let o = gives _ _ _ _ _ (outcome_written t c.args.n c.requires.accepted b (omega arith)) refl
     (first_bytes t c.args.n c.requires.accepted b _ _ _ _ (omega arith) c.write_header.ensures.bytes c.«open».ensures.held.digits
     c.open-2.ensures.held.digits c.gap.ensures.walked) in
-    record { answer = t.0; bytes = t.1 }
+    record { answer = o.0; bytes = o.1 }

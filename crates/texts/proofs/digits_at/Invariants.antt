@@ -8,7 +8,8 @@ use Rattle.texts.specs.Printed.{digit_byte}
 use Rattle.texts.proofs.digits_at.Given as goal
 
 abbrev pub invariant-loop-j : goal.invariant-loop-j
-invariant-loop-j l = (l.j ≤ length l.digits) × (l.out ≡ put l.initial.out l.at (map digit_byte (take l.j l.digits))) × (length l.out ≡ length l.initial.out)
+invariant-loop-j l =
+    (l.j ≤ length l.digits) × (l.out ≡ put l.initial.out l.at (map digit_byte (take l.j l.digits))) × (length l.out ≡ length l.initial.out)
 
 abbrev pub decreases-loop-j : goal.decreases-loop-j
 decreases-loop-j l = length l.digits - l.j

@@ -23,7 +23,8 @@ unpacked c =
     accepted_side a.field.now _ (omega arith) _ c.unpack.ensures.answer _ _ c.unpack.ensures.bytes c.in-Accepted.is
 
 pub returns-in_default : goal.returns-in_default
-returns-in_default c = let t = byte_stored c.args.out.now c.args.at _ _ (no_digits _ (refused (goal.at.returns-in_default c).In_default)) c.requires.room in
+returns-in_default c =
+    let t = byte_stored c.args.out.now c.args.at _ _ (no_digits _ (refused (goal.at.returns-in_default c).In_default)) c.requires.room in
     record { text = t.0; end = t.1 }
 
 pub slice_bounds-digits-end : goal.slice_bounds-digits-end
@@ -40,6 +41,8 @@ digits_at-requires c = let u = unpacked (goal.at.digits_at-requires c).After-dig
     }
 
 pub returns : goal.returns
-returns c = let t = code_stored c.args.field.now _ _ c.args.out.now _ c.args.at _ (unpacked (goal.at.returns c).After-digits_at-arg-1) c.digits_at.ensures.text
+returns c =
+    let t = code_stored c.args.field.now _ _ c.args.out.now _ c.args.at _
+    (unpacked (goal.at.returns c).After-digits_at-arg-1) c.digits_at.ensures.text
     c.digits_at.ensures.end in
     record { text = t.0; end = t.1 }

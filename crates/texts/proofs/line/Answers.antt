@@ -80,5 +80,13 @@ returns c =
     record {
       text = rw e at z.bytes;
       length = rw e at z.count;
-      fits = omega (arith, c.number_at-at.ensures.end, c.number_at-at-2.ensures.end, c.code_at-at.ensures.end, c.code_at-at-2.ensures.end, c.code_at.ensures.end);
+      fits =
+          omega (
+            arith,
+            c.number_at-at.ensures.end,
+            c.number_at-at-2.ensures.end,
+            c.code_at-at.ensures.end,
+            c.code_at-at-2.ensures.end,
+            c.code_at.ensures.end,
+          );
     }

@@ -11,7 +11,8 @@ use Rattle.texts.proofs.read_row.Goals.{In-Found, In-Found-read_number}
 -- the first number
 first : (c : In-Found) →
     let a = c.args in
-    (read_number space (drop a.at a.text.now) ≡ number c.in-Found.identity (drop c.in-Found.second a.text.now)) × (c.in-Found.second ≤ length a.text.now)
+    (read_number space (drop a.at a.text.now) ≡ number c.in-Found.identity (drop c.in-Found.second a.text.now))
+    × (c.in-Found.second ≤ length a.text.now)
 first c =
     let a = c.args in
     found a.text.now (read_number space (drop a.at a.text.now)) c.read_number.ensures.number c.in-Found.is
@@ -19,7 +20,8 @@ first c =
 -- the second number
 second : (c : In-Found-read_number) →
     let text = c.args.text.now in
-    (read_number space (drop c.in-Found.second text) ≡ number c.in-Found-read_number.tag (drop c.in-Found-read_number.third text)) × (c.in-Found-read_number.third ≤ length text)
+    (read_number space (drop c.in-Found.second text) ≡ number c.in-Found-read_number.tag (drop c.in-Found-read_number.third text))
+    × (c.in-Found-read_number.third ≤ length text)
 second c =
     let text = c.args.text.now in
     found text (read_number space (drop c.in-Found.second text)) c.read_number-2.ensures.number c.in-Found-read_number.is
@@ -43,7 +45,8 @@ pub returns-in_default-read_number-2 : goal.returns-in_default-read_number-2
 returns-in_default-read_number-2 c = record {
   row = let text = c.args.text.now in
       let rest = drop c.in-Found-read_number.third text in
-      no_third _ (first (goal.at.returns-in_default-read_number-2 c).In-Found).0 (second (goal.at.returns-in_default-read_number-2 c).In-Found-read_number).0
+      no_third _ (first (goal.at.returns-in_default-read_number-2 c).In-Found).0
+      (second (goal.at.returns-in_default-read_number-2 c).In-Found-read_number).0
       (missing text (read_number newline rest) c.read_number-3.ensures.number c.in_default-read_number-2.is);
 }
 

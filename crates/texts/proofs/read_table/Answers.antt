@@ -10,9 +10,10 @@ pub loop-at-init : goal.loop-at-init
 loop-at-init c = (omega arith, omega arith, refl, reached_start _ _)
 
 pub returns-in_default : goal.returns-in_default
-returns-in_default c = let t = let text = c.args.text.now in
+returns-in_default c =
+    let text = c.args.text.now in
     let bytes = drop c.loop-at.at text in
-    reached_broken c.loop-at.invariant.3 (omega arith) (omega arith)
+    let t = reached_broken c.loop-at.invariant.3 (omega arith) (omega arith)
     (broken text (read_line bytes) c.read_row.ensures.row c.in_default.is) in
     record { lines = t.0; numbers = t.1 }
 

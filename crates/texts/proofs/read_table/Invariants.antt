@@ -8,7 +8,8 @@ use Rattle.texts.proofs.read_table.Given as goal
 
 abbrev pub invariant-loop-at : goal.invariant-loop-at
 invariant-loop-at l =
-    (l.n ≤ most_lines) × (l.at ≤ length l.text) × (length l.table ≡ length l.initial.table) × Reached l.text l.initial.table l.table l.n l.at
+    (l.n ≤ most_lines) × (l.at ≤ length l.text) × (length l.table ≡ length l.initial.table)
+    × Reached l.text l.initial.table l.table l.n l.at
 
 abbrev pub decreases-loop-at : goal.decreases-loop-at
 decreases-loop-at l = most_lines - l.n

@@ -29,7 +29,9 @@ pub closer-best-requires : goal.closer-best-requires
 closer-best-requires c = let b = c.args.register.now in record {
   from = c.requires.from;
   best = c.loop-i.invariant.2;
-  at = subst (CodeAt b) (sym c.start_place.ensures.place) (codes_at b c.requires.sound c.loop-i.i (omega (arith, c.loop-i.invariant.1))).start_at_lem;
+  at =
+      subst (CodeAt b) (sym c.start_place.ensures.place)
+      (codes_at b c.requires.sound c.loop-i.i (omega (arith, c.loop-i.invariant.1))).start_at_lem;
 }
 
 pub end_place-requires : goal.end_place-requires
@@ -39,7 +41,9 @@ pub closer-best-requires-in-loop-i : goal.closer-best-requires-in-loop-i
 closer-best-requires-in-loop-i c = let b = c.args.register.now in record {
   from = c.requires.from;
   best = c.closer-best.ensures.code;
-  at = subst (CodeAt b) (sym c.end_place.ensures.place) (codes_at b c.requires.sound c.loop-i.i (omega (arith, c.loop-i.invariant.1))).end_at_lem;
+  at =
+      subst (CodeAt b) (sym c.end_place.ensures.place)
+      (codes_at b c.requires.sound c.loop-i.i (omega (arith, c.loop-i.invariant.1))).end_at_lem;
 }
 
 pub loop-i-preserved : goal.loop-i-preserved
@@ -50,7 +54,8 @@ loop-i-preserved c = let b = c.args.register.now in
       c.closer-best-in-loop-i.ensures.code,
       c.loop-i.invariant.3
           ∙ nearest_next b c.args.up x c.requires.sound c.loop-i.i (omega (arith, c.loop-i.invariant.1)) _ _ _
-          (c.closer-best.ensures.closer ∙ ap (λ (z : ℕ). closer c.args.up x (code_at b c.loop-i.best) (code_at b z)) c.start_place.ensures.place)
+          (c.closer-best.ensures.closer
+          ∙ ap (λ (z : ℕ). closer c.args.up x (code_at b c.loop-i.best) (code_at b z)) c.start_place.ensures.place)
           (c.closer-best-in-loop-i.ensures.closer ∙ ap (λ (z : ℕ). closer c.args.up x (code_at b c.closer-best.result) (code_at b z))
           c.end_place.ensures.place),
     )

@@ -14,7 +14,8 @@ start_place-requires c = record { most = omega (arith, (sized_of _ c.requires.so
 pub fields_below-requires : goal.fields_below-requires
 fields_below-requires c = record {
   codes = let b = c.args.register.now in (
-    subst (CodeAt b) (sym c.start_place.ensures.place) (codes_at b c.requires.sound c.loop-i.i (omega (arith, c.loop-i.invariant.1))).start_at_lem,
+    subst (CodeAt b) (sym c.start_place.ensures.place)
+        (codes_at b c.requires.sound c.loop-i.i (omega (arith, c.loop-i.invariant.1))).start_at_lem,
     c.requires.code,
   );
 }
@@ -23,7 +24,8 @@ pub returns-then-not-fields_below : goal.returns-then-not-fields_below
 returns-then-not-fields_below c = let b = c.args.register.now in
     let r = code_at b c.args.at in
     let s = leading_stop b r c.requires.sound c.loop-i.i (omega (arith, c.loop-i.invariant.1))
-    (ap (λ z. is_below (code_at b z) r) (sym c.start_place.ensures.place) ∙ sym c.fields_below.ensures.below ∙ c.if-not-fields_below.true) in
+    (ap (λ z. is_below (code_at b z) r) (sym c.start_place.ensures.place) ∙ sym c.fields_below.ensures.below
+    ∙ c.if-not-fields_below.true) in
     record {
       starts = omega (arith, s, c.loop-i.invariant.2);
       most = omega (arith, c.loop-i.invariant.1);
@@ -36,5 +38,6 @@ loop-i-preserved c = let b = c.args.register.now in
       c.loop-i.invariant.1,
       c.loop-i.invariant.2
           ∙ leading_next b r c.requires.sound c.loop-i.i (omega (arith, c.loop-i.invariant.1))
-          (ap (λ z. is_below (code_at b z) r) (sym c.start_place.ensures.place) ∙ sym c.fields_below.ensures.below ∙ c.if-not-fields_below.false),
+          (ap (λ z. is_below (code_at b z) r) (sym c.start_place.ensures.place) ∙ sym c.fields_below.ensures.below
+          ∙ c.if-not-fields_below.false),
     )

@@ -9,7 +9,8 @@ use Rattle.edits.proofs.search.starts_below.Given as goal
 
 abbrev pub invariant-loop-i : goal.invariant-loop-i
 invariant-loop-i l =
-    (l.i ≤ l.n) × (l.n ≡ count_of l.register) × (leading (code_at l.register l.at) (lines_of l.register) ≡ l.i + leading_from l.register (code_at l.register l.at) l.i)
+    (l.i ≤ l.n) × (l.n ≡ count_of l.register)
+    × (leading (code_at l.register l.at) (lines_of l.register) ≡ l.i + leading_from l.register (code_at l.register l.at) l.i)
 
 abbrev pub decreases-loop-i : goal.decreases-loop-i
 decreases-loop-i l =

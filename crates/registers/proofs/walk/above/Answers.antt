@@ -33,7 +33,8 @@ returns-then-fields_below c = record {
       c.start_place.ensures.place
       ∙ ap (λ (k : ℕ). is_below (code_at b (start_place c.args.i)) (code_at b k)) c.start_place-2.ensures.place in
       let second : c.fields_below-then-fields_below.result ≡ is_below (code_at b (end_place c.args.j)) (code_at b (end_place c.args.i)) =
-      c.fields_below-then-fields_below.ensures.below ∙ ap (λ (k : ℕ). is_below (code_at b k) (code_at b c.end_place-then-fields_below.result))
+      c.fields_below-then-fields_below.ensures.below
+      ∙ ap (λ (k : ℕ). is_below (code_at b k) (code_at b c.end_place-then-fields_below.result))
       c.end_place.ensures.place
       ∙ ap (λ (k : ℕ). is_below (code_at b (end_place c.args.j)) (code_at b k)) c.end_place-then-fields_below.ensures.place in
       both_are _ _ _ (sym first ∙ c.if-fields_below.true) second ∙ sym

@@ -21,7 +21,9 @@ second : (g : After-fields_below-then-fields_below) →
     let a = g.args in
     let b = a.register.now in
     g.fields_below-then-fields_below.result ≡ is_below (code_at b (end_place a.at)) (code_at b (end_place a.parent))
-second g = below_at _ _ _ _ _ _ g.fields_below-then-fields_below.ensures.below g.end_place.ensures.place g.end_place-then-fields_below.ensures.place
+second g =
+    below_at _ _ _ _ _ _ g.fields_below-then-fields_below.ensures.below g.end_place.ensures.place
+    g.end_place-then-fields_below.ensures.place
 
 pub fields_below-requires : goal.fields_below-requires
 fields_below-requires c = record {
@@ -35,8 +37,10 @@ pub fields_below-requires-then-fields_below : goal.fields_below-requires-then-fi
 fields_below-requires-then-fields_below c = record {
   codes = let b = c.args.register.now in
       let u = sound_at b c.args.at c.requires.place c.requires.label in
-      let p = sound_at b c.args.parent c.requires.parent c.requires.above in
-      (subst (CodeAt b) (sym c.end_place.ensures.place) u.end_at_lem, subst (CodeAt b) (sym c.end_place-then-fields_below.ensures.place) p.end_at_lem);
+      let p = sound_at b c.args.parent c.requires.parent c.requires.above in (
+        subst (CodeAt b) (sym c.end_place.ensures.place) u.end_at_lem,
+        subst (CodeAt b) (sym c.end_place-then-fields_below.ensures.place) p.end_at_lem,
+      );
 }
 
 pub fields_same-requires : goal.fields_same-requires

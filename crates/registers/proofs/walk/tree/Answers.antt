@@ -12,7 +12,8 @@ labels : (c : Else-not-sound_labels) → HasLabels c.args.register.now c.args.n
 labels c = (c.requires.entries, sym c.sound_labels.ensures.sound ∙ c.if-not-sound_labels.false)
 
 pub returns-then-not-sound_labels : goal.returns-then-not-sound_labels
-returns-then-not-sound_labels c = record { tree = unsound_tree c.args.register.now c.args.n (sym c.sound_labels.ensures.sound ∙ c.if-not-sound_labels.true) }
+returns-then-not-sound_labels c =
+    record { tree = unsound_tree c.args.register.now c.args.n (sym c.sound_labels.ensures.sound ∙ c.if-not-sound_labels.true) }
 
 pub orphan-requires : goal.orphan-requires
 orphan-requires c = let b = c.args.register.now in
@@ -22,7 +23,12 @@ orphan-requires c = let b = c.args.register.now in
     }
 
 pub returns-then-not-orphan : goal.returns-then-not-orphan
-returns-then-not-orphan c = record { tree = tree_child c.args.register.now c.args.n c.requires.some (labels (goal.at.returns-then-not-orphan c).Else-not-sound_labels) (sym c.orphan.ensures.orphan ∙ c.if-not-orphan.true) }
+returns-then-not-orphan c =
+    record {
+      tree =
+          tree_child c.args.register.now c.args.n c.requires.some (labels (goal.at.returns-then-not-orphan c).Else-not-sound_labels)
+          (sym c.orphan.ensures.orphan ∙ c.if-not-orphan.true);
+    }
 
 pub returns-in-To : goal.returns-in-To
 returns-in-To c = record {

@@ -27,9 +27,15 @@ stored c =
 pub overflow_add-result : goal.overflow_add-result
 overflow_add-result c = let p = c.args.self in
     let k : ℕ = p.count % 4 in
-    omega (arith, stored (goal.at.overflow_add-result c).Joined-place-eq0, fits_byte p c.args.digit k c.requires.pushable.small (omega arith) (omega arith) refl c.requires.pushable.opened)
+    omega (
+      arith,
+      stored (goal.at.overflow_add-result c).Joined-place-eq0,
+      fits_byte p c.args.digit k c.requires.pushable.small (omega arith) (omega arith) refl c.requires.pushable.opened,
+    )
 
 pub returns : goal.returns
-returns c = let t = let p = c.args.self in
-    after p c.args.digit _ c.requires.pushable.small c.requires.pushable.opened (p.count % 4) (omega arith) refl (stored (goal.at.returns c).Joined-place-eq0) in
+returns c =
+    let p = c.args.self in
+    let t = after p c.args.digit _ c.requires.pushable.small c.requires.pushable.opened (p.count % 4) (omega arith) refl
+    (stored (goal.at.returns c).Joined-place-eq0) in
     record { pushed = t.0; «open» = t.1 }

@@ -5,13 +5,15 @@ use Rattle.codes.proofs.CallLaws.{between_no_side, between_disordered}
 use Rattle.codes.proofs.spread.Code.between.Goals as goal
 
 pub returns-in-NoSide : goal.returns-in-NoSide
-returns-in-NoSide c = let t = let a = c.args in
+returns-in-NoSide c =
+    let a = c.args in
     let e = sym c.sides_of.ensures.sides ∙ c.in-NoSide.is in
-    gives _ _ _ _ _ (between_no_side a.left.now a.right.now a.field.now e) refl refl in
+    let t = gives _ _ _ _ _ (between_no_side a.left.now a.right.now a.field.now e) refl refl in
     record { answer = t.0; bytes = t.1 }
 
 pub returns-in-Disordered : goal.returns-in-Disordered
-returns-in-Disordered c = let t = let a = c.args in
+returns-in-Disordered c =
+    let a = c.args in
     let e = sym c.sides_of.ensures.sides ∙ c.in-Disordered.is in
-    gives _ _ _ _ _ (between_disordered a.left.now a.right.now a.field.now e) refl refl in
+    let t = gives _ _ _ _ _ (between_disordered a.left.now a.right.now a.field.now e) refl refl in
     record { answer = t.0; bytes = t.1 }

@@ -7,9 +7,10 @@ use Rattle.codes.proofs.CallLaws.{pack_no_code, pack_short, pack_written}
 use Rattle.codes.proofs.spread.Code.pack.Goals as goal
 
 pub returns-then-field-lt-FIELD : goal.returns-then-field-lt-FIELD
-returns-then-field-lt-FIELD c = let t = let a = c.args in
+returns-then-field-lt-FIELD c =
+    let a = c.args in
     let e = sym c.is_code.ensures.code ∙ c.if-is_code.true in
-    gives _ _ _ _ _ (pack_short a.digits.now a.field.now e c.if-field-lt-FIELD.true) refl refl in
+    let t = gives _ _ _ _ _ (pack_short a.digits.now a.field.now e c.if-field-lt-FIELD.true) refl refl in
     record { answer = t.0; bytes = t.1 }
 
 pub write_field-requires : goal.write_field-requires
@@ -20,13 +21,15 @@ write_field-requires c = let x = c.args.digits.now in
     }
 
 pub returns-then-is_code : goal.returns-then-is_code
-returns-then-is_code c = let t = let a = c.args in
+returns-then-is_code c =
+    let a = c.args in
     let e = sym c.is_code.ensures.code ∙ c.if-is_code.true in
-    gives _ _ _ _ _ (pack_written a.digits.now a.field.now e c.if-field-lt-FIELD.false)
+    let t = gives _ _ _ _ _ (pack_written a.digits.now a.field.now e c.if-field-lt-FIELD.false)
     refl c.write_field.ensures.bytes in
     record { answer = t.0; bytes = t.1 }
 
 pub returns : goal.returns
-returns c = let t = let a = c.args in
-    gives _ _ _ _ _ (pack_no_code a.digits.now a.field.now (sym c.is_code.ensures.code ∙ c.if-is_code.false)) refl refl in
+returns c =
+    let a = c.args in
+    let t = gives _ _ _ _ _ (pack_no_code a.digits.now a.field.now (sym c.is_code.ensures.code ∙ c.if-is_code.false)) refl refl in
     record { answer = t.0; bytes = t.1 }
