@@ -20,7 +20,6 @@ use Rattle.numbers.specs.Bytes.{put}
 use Rattle.numbers.proofs.PutLaws.{put_run}
 use Rattle.codes.specs.Code.{longest, field_size, is_code}
 use Rattle.codes.specs.Field.{field_of}
-use Rattle.codes.specs.Reading.{code}
 use Rattle.codes.specs.Calls.{pack_outcome, unpack_outcome}
 use Rattle.codes.proofs.TestLaws.{is_code_true}
 use Rattle.codes.proofs.FieldLaws.{field_length}

@@ -94,6 +94,10 @@ sound_gives b h =
     let t = (and-eq-true_iff (eqb (length b) label_size) _).0 h in
     sound_as b _ _ _ (eqb-true (length b) label_size t.0) refl refl refl t.1
 
+-- a call on two sound labels knows the size of both
+pub both_sizes : (a b : List ℕ) → (is_sound a ≡ true) × (is_sound b ≡ true) → (length a ≡ label_size) × (length b ≡ label_size)
+both_sizes a b h = ((sound_gives a h.0).size, (sound_gives b h.1).size)
+
 -- soundness field by field
 not_start : (r e p : Reading) → is_code_held r ≡ false → is_sound_as r e p ≡ false
 not_start (code s) e p h = absurd (false≢true (sym h))

@@ -10,7 +10,6 @@ use Rattle.numbers.specs.Bytes.{put}
 use Rattle.codes.specs.Field.{field_of}
 use Rattle.codes.specs.Reading.{read, side_of}
 use Rattle.codes.specs.Spread.{Held}
-use Rattle.codes.proofs.SpreadLaws.{whole}
 use Rattle.codes.proofs.CallLaws.{in_order, known_count, held_between, between_short, between_long, between_written, between_slots}
 use Rattle.codes.proofs.between_sides.Goals as goal
 use Rattle.codes.proofs.between_sides.Goals.{After-step-made}

@@ -8,7 +8,7 @@ use Rattle.answers.proofs.OutcomeLaws.{gives}
 use Rattle.numbers.specs.Bytes.{put}
 use Rattle.codes.specs.Reading.{read, side_of}
 use Rattle.codes.specs.Spread.{Held}
-use Rattle.codes.proofs.SpreadLaws.{whole, held_is}
+use Rattle.codes.proofs.SpreadLaws.{held_is}
 use Rattle.codes.proofs.CallLaws.{held_known, unpack_short, unpack_written}
 use Rattle.codes.proofs.ReadingLaws.{held_code}
 use Rattle.codes.proofs.unpack_code.Goals as goal

@@ -1,21 +1,21 @@
 -- `is_above` meets its contract: the starts, then the ends the other way round. Assumes nothing.
 use mathlib.Core.Path.{◌∙◌}
 use native.Mathlib.Omega.{arith}
-use Rattle.labels.proofs.LabelLaws.{sound_gives}
+use Rattle.labels.proofs.LabelLaws.{both_sizes}
 use Rattle.labels.proofs.QuestionLaws.{start_below, end_below, above_no, above_by}
 use Rattle.labels.proofs.is_above.Goals as goal
 
 pub field-requires : goal.field-requires
-field-requires c = record { inside = omega (arith, (sound_gives _ c.requires.sound.0).size) }
+field-requires c = record { inside = omega (arith, both_sizes _ _ c.requires.sound) }
 
 pub field-requires-2 : goal.field-requires-2
-field-requires-2 c = record { inside = omega (arith, (sound_gives _ c.requires.sound.1).size) }
+field-requires-2 c = record { inside = omega (arith, both_sizes _ _ c.requires.sound) }
 
 pub field-requires-then-below : goal.field-requires-then-below
-field-requires-then-below c = record { inside = omega (arith, (sound_gives _ c.requires.sound.1).size) }
+field-requires-then-below c = record { inside = omega (arith, both_sizes _ _ c.requires.sound) }
 
 pub field-requires-then-below-2 : goal.field-requires-then-below-2
-field-requires-then-below-2 c = record { inside = omega (arith, (sound_gives _ c.requires.sound.0).size) }
+field-requires-then-below-2 c = record { inside = omega (arith, both_sizes _ _ c.requires.sound) }
 
 pub returns-then-below : goal.returns-then-below
 returns-then-below c = record {

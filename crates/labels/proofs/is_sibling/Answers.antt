@@ -2,24 +2,24 @@
 use mathlib.Core.Path.{◌∙◌}
 use mathlib.Core.Bool.{true, false}
 use native.Mathlib.Omega.{arith}
-use Rattle.labels.proofs.LabelLaws.{sound_gives}
+use Rattle.labels.proofs.LabelLaws.{both_sizes}
 use Rattle.labels.proofs.QuestionLaws.{starts_same, parents_same, sibling_orphan, sibling_apart, sibling_by}
 use Rattle.labels.proofs.is_sibling.Goals as goal
 
 pub bounds-u-64 : goal.bounds-u-64
-bounds-u-64 c = omega (arith, (sound_gives _ c.requires.sound.0).size)
+bounds-u-64 c = omega (arith, both_sizes _ _ c.requires.sound)
 
 pub returns-then-u-eq0 : goal.returns-then-u-eq0
 returns-then-u-eq0 c = record { sibling = sibling_orphan _ _ c.requires.sound.0 c.requires.sound.1 c.if-u-eq0.true }
 
 pub field-requires : goal.field-requires
-field-requires c = record { inside = omega (arith, (sound_gives _ c.requires.sound.0).size) }
+field-requires c = record { inside = omega (arith, both_sizes _ _ c.requires.sound) }
 
 pub field-requires-2 : goal.field-requires-2
-field-requires-2 c = record { inside = omega (arith, (sound_gives _ c.requires.sound.1).size) }
+field-requires-2 c = record { inside = omega (arith, both_sizes _ _ c.requires.sound) }
 
 pub field-requires-then-same-2 : goal.field-requires-then-same-2
-field-requires-then-same-2 c = record { inside = omega (arith, (sound_gives _ c.requires.sound.1).size) }
+field-requires-then-same-2 c = record { inside = omega (arith, both_sizes _ _ c.requires.sound) }
 
 pub returns-then-same-2 : goal.returns-then-same-2
 returns-then-same-2 c = record {

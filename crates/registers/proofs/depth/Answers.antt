@@ -4,7 +4,6 @@ use native.Mathlib.Omega.{arith}
 use lib.IntN.{pos}
 use mir.Syntax.{w32}
 use mir.Facts.{to_z_pos}
-use borrow.Author.Tests.{not-false}
 use Rattle.answers.proofs.SignedLaws.{read_back}
 use Rattle.registers.specs.Questions.{depth_as}
 use Rattle.registers.proofs.QuestionLaws.{parts_of, found_inside, depth_bound, depth_unsound, depth_found, sized_of}

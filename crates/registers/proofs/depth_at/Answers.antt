@@ -10,14 +10,15 @@ count-n-requires c = record { header = (sized_of c.args.register.now c.requires.
 
 pub above-requires : goal.above-requires
 above-requires c = let b = c.args.register.now in
-    let e = sized_entries b (sized_of c.args.register.now c.requires.sound) in record {
+    let e = sized_entries b (sized_of c.args.register.now c.requires.sound) in
+    let n = c.loop-i.invariant.1 in record {
       places = (
-        has_place b (count_of b) c.loop-i.i e (omega (arith, c.loop-i.invariant.1)),
-        has_place b (count_of b) c.args.place e c.requires.place,
+        has_place b (count_of b) _ e (omega (arith, n, c.requires.place)),
+        has_place b (count_of b) _ e (omega (arith, n, c.requires.place)),
       );
       labels = (
-        labels_sound b c.loop-i.i c.requires.sound (omega (arith, c.loop-i.invariant.1)),
-        labels_sound b c.args.place c.requires.sound c.requires.place,
+        labels_sound b _ c.requires.sound (omega (arith, n, c.requires.place)),
+        labels_sound b _ c.requires.sound (omega (arith, n, c.requires.place)),
       );
     }
 

@@ -1,7 +1,6 @@
 -- `sound` meets its contract, part by part. Assumes nothing.
 use mathlib.Core.Path.{sym, ap, ◌∙◌}
 use Prim.Native.Nat.{ℕ}
-use borrow.Author.Tests.{not-true, not-false}
 use Rattle.identities.specs.Rows.{is_all_new}
 use Rattle.registers.specs.Holds.{identities}
 use Rattle.registers.specs.Sound.{lines_from, is_tree}

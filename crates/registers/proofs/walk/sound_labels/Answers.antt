@@ -1,6 +1,5 @@
 -- `sound_labels` meets its contract. The loop's invariant: the labels before i are sound. Assumes nothing.
 use mathlib.Core.Path.{sym, ◌∙◌}
-use mathlib.Core.Bool.{true}
 use Rattle.registers.proofs.SoundLaws.{labels_fail}
 use Rattle.registers.proofs.walk.sound_labels.Goals as goal
 

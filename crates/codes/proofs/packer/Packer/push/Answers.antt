@@ -1,6 +1,5 @@
 -- `Packer::push` meets its contract: the byte goes on or begins anew, and the digit is shifted to its place. Assumes nothing.
 use mathlib.Core.Path.{◌≡◌, refl}
-use mathlib.Core.Logic.{⊎_elim}
 use Prim.Native.Nat.{ℕ, ◌+◌, ◌*◌, ◌-◌, ◌%◌, ◌^◌}
 use native.Mathlib.Omega.{arith}
 use Rattle.codes.specs.Packer.{begun}
