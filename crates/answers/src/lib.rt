@@ -1,9 +1,9 @@
-// What a call answers: a number where it is accepted, or why it is refused.
+//! What a call answers: a value where it is accepted, or why it is refused; and both as one signed number for C.
 #![tactic(auto)]
 
-ghost use Rattle.std.specs.Prelude.{◌≡◌, ◌^◌, ◌≤◌, ◌<◌};
+ghost use Rattle.std.specs.Prelude.{◌≡◌, ◌^◌, ◌≤◌, ◌<◌, ℤ, pos};
 ghost use Rattle.answers.specs.Number.{number_of, row_of};
-ghost use Rattle.answers.specs.Signed.{refused_as, signed_of, Signable, with_row, signed_row_of, SignableRow};
+ghost use Rattle.answers.specs.Signed.{refused_as, yes_no, with_row, signed_as, IsSignable, signed_row_of, SignableRow};
 
 // Above every refusal number of the host program.
 const REFUSED: i32 = -100000;
@@ -11,8 +11,8 @@ const REFUSED: i32 = -100000;
 // What a row counts in the answer of a call that answers rows.
 const EACH_ROW: u64 = 1000000;
 
-// A case for each reason of 01's table of refusals; a row of a table stands with the cases that answer one.
-#[derive(Clone, Copy)]
+/// Why a call is refused; a row of a table, from 0, stands with the cases that answer one.
+#[derive(Clone, Copy, Debug, PartialEq, Eq)]
 pub enum Refusal {
     TableSize,
     RowDepth(usize),
@@ -30,14 +30,8 @@ pub enum Refusal {
     Order,
 }
 
-#[derive(Clone, Copy)]
-pub enum Answer {
-    Accepted(usize),
-    Refused(Refusal),
-}
-
 impl Refusal {
-    // The number of 01's table.
+    /// Its number for the host program.
     pub fn number(self) -> u32
         ensures number { result ≡ number_of self }
         ensures small { result ≤ 13 }
@@ -45,8 +39,7 @@ impl Refusal {
         match self {
             Refusal::TableSize => 1,
             Refusal::RowDepth(_) => 2,
-            Refusal::RowIdentity(_) => 3,
-            Refusal::Identity => 3,
+            Refusal::RowIdentity(_) | Refusal::Identity => 3,
             Refusal::Room => 4,
             Refusal::Register => 5,
             Refusal::Target => 6,
@@ -60,65 +53,98 @@ impl Refusal {
         }
     }
 
-    // The same for the host program: -(100,000 + the number).
+    /// The same as C gets it: -(100,000 + the number).
     pub fn signed(self) -> i32
         ensures signed { result ≡ refused_as (number_of self) }
     {
         REFUSED - self.number() as i32
     }
 
-    // The same with the row: -(100,000 + the number + 1,000,000 times the row).
+    /// The same with the row: -(100,000 + the number + 1,000,000 times the row).
     pub fn signed_row(self) -> i64
         requires small { row_of self < 2 ^ 32 }
         ensures signed { result ≡ refused_as (with_row self) }
     {
-        let number = self.number() as u64 + EACH_ROW * self.row() as u64;
-        REFUSED as i64 - number as i64
+        let number = u64::from(self.number()) + EACH_ROW * self.row() as u64;
+        i64::from(REFUSED) - number as i64
     }
 
-    // The row that is answered with it, from 0; 0 where none is.
+    /// The row that is answered with it, from 0; 0 where none is.
     pub fn row(self) -> usize
         ensures row { result ≡ row_of self }
     {
         match self {
-            Refusal::TableSize => 0,
-            Refusal::RowDepth(row) => row,
-            Refusal::RowIdentity(row) => row,
-            Refusal::Identity => 0,
-            Refusal::Room => 0,
-            Refusal::Register => 0,
-            Refusal::Target => 0,
-            Refusal::Root => 0,
-            Refusal::CodeLength => 0,
-            Refusal::Children => 0,
-            Refusal::Depth => 0,
-            Refusal::Label => 0,
-            Refusal::NoCode => 0,
-            Refusal::Order => 0,
+            Refusal::RowDepth(row) | Refusal::RowIdentity(row) => row,
+            _ => 0,
         }
     }
 }
 
-impl Answer {
-    // An accepted number as it is, a refusal as -(100,000 + its number).
-    pub fn signed(self) -> i32
-        requires small { Signable self }
-        ensures signed { result ≡ signed_of self }
-    {
+/// What C gets as a signed number of 32 bits.
+pub trait Signed: Copy {
+    ghost number: { Self → ℤ };
+
+    ghost Fits: { Self → Type 0 };
+
+    fn signed(self) -> i32
+        requires small { Fits self }
+        ensures signed { result ≡ number self };
+}
+
+/// A count or a place as it is.
+impl Signed for usize {
+    ghost number = { pos };
+
+    ghost Fits = { λ n. n < 2 ^ 31 };
+
+    fn signed(self) -> i32 {
+        self as i32
+    }
+}
+
+/// A signed number as it is.
+impl Signed for i32 {
+    ghost number = { λ z. z };
+
+    ghost Fits = { λ _. Unit {0} };
+
+    fn signed(self) -> i32 {
+        self
+    }
+}
+
+/// Yes is 1, no is 0.
+impl Signed for bool {
+    ghost number = { yes_no };
+
+    ghost Fits = { λ _. Unit {0} };
+
+    fn signed(self) -> i32 {
+        i32::from(self)
+    }
+}
+
+/// What is accepted as its number, a refusal as -(100,000 + its number).
+impl<T: Signed> Signed for Result<T, Refusal> {
+    ghost number = { signed_as T.number };
+
+    ghost Fits = { IsSignable T.Fits };
+
+    fn signed(self) -> i32 {
         match self {
-            Answer::Accepted(n) => n as i32,
-            Answer::Refused(refusal) => refusal.signed(),
+            Ok(value) => value.signed(),
+            Err(refusal) => refusal.signed(),
         }
     }
+}
 
-    // The same for a call that answers rows.
-    pub fn signed_row(self) -> i64
-        requires small { SignableRow self }
-        ensures signed { result ≡ signed_row_of self }
-    {
-        match self {
-            Answer::Accepted(n) => n as i64,
-            Answer::Refused(refusal) => refusal.signed_row(),
-        }
+/// The same for a call that answers rows, in 64 bits.
+pub fn signed_row(answer: Result<usize, Refusal>) -> i64
+    requires small { SignableRow answer }
+    ensures signed { result ≡ signed_row_of answer }
+{
+    match answer {
+        Ok(n) => n as i64,
+        Err(refusal) => refusal.signed_row(),
     }
 }

@@ -13,7 +13,7 @@ mod field;
 mod packer;
 mod spread;
 
-use answers::{Answer, Refusal};
+use answers::Refusal;
 use field::{Kind, kind_of};
 pub use field::{below, compare, holds_code, is_empty, same};
 pub use packer::{Packer, byte_after};
@@ -29,46 +29,46 @@ pub enum Sides {
 
 impl Code {
     // Packs digits into a lent field and answers their number. Refuses 12, 4.
-    pub fn pack(digits: &[u8], field: &mut [u8]) -> Answer
+    pub fn pack(digits: &[u8], field: &mut [u8]) -> Result<usize, Refusal>
         ensures answer { result ≡ (pack_outcome digits.now field.old).answer }
         ensures bytes { field.new ≡ (pack_outcome digits.now field.old).bytes }
     {
         if is_code(digits) {
             if field.len() < Code::FIELD {
-                return Answer::Refused(Refusal::Room);
+                return Err(Refusal::Room);
             }
             write_field(field, digits);
-            return Answer::Accepted(digits.len());
+            return Ok(digits.len());
         }
-        Answer::Refused(Refusal::NoCode)
+        Err(Refusal::NoCode)
     }
 
     // Unpacks a field into lent digits and answers their number. Refuses 12, 4.
-    pub fn unpack(field: &[u8], digits: &mut [u8]) -> Answer
+    pub fn unpack(field: &[u8], digits: &mut [u8]) -> Result<usize, Refusal>
         ensures answer { result ≡ (unpack_outcome field.now digits.old).answer }
         ensures bytes { digits.new ≡ (unpack_outcome field.now digits.old).bytes }
     {
         if holds_code(field) {
             return unpack_code(field, digits);
         }
-        Answer::Refused(Refusal::NoCode)
+        Err(Refusal::NoCode)
     }
 
     // Writes the field of the one code between two sides and answers its number of digits. Refuses 12, 13, 4, 8.
-    pub fn between(left: &[u8], right: &[u8], field: &mut [u8]) -> Answer
+    pub fn between(left: &[u8], right: &[u8], field: &mut [u8]) -> Result<usize, Refusal>
         ensures answer { result ≡ (between_outcome left.now right.now field.old).answer }
         ensures bytes { field.new ≡ (between_outcome left.now right.now field.old).bytes }
     {
         match sides_of(left, right) {
-            Sides::NoSide => Answer::Refused(Refusal::NoCode),
-            Sides::Disordered => Answer::Refused(Refusal::Order),
+            Sides::NoSide => Err(Refusal::NoCode),
+            Sides::Disordered => Err(Refusal::Order),
             Sides::Ordered => between_sides(left, right, field),
         }
     }
 }
 
 // Unpacking of a field that holds a code.
-fn unpack_code(field: &[u8], digits: &mut [u8]) -> Answer
+fn unpack_code(field: &[u8], digits: &mut [u8]) -> Result<usize, Refusal>
     requires held { is_code_held (read field.now) ≡ true }
     ensures answer { result ≡ (unpack_outcome field.now digits.old).answer }
     ensures bytes { digits.new ≡ (unpack_outcome field.now digits.old).bytes }
@@ -76,30 +76,30 @@ fn unpack_code(field: &[u8], digits: &mut [u8]) -> Answer
     let code = spread::of_field(field);
     let n = code.count;
     if digits.len() < n {
-        return Answer::Refused(Refusal::Room);
+        return Err(Refusal::Room);
     }
     let from = code.digits;
     numbers::copy(digits, 0, &from, 0, n);
-    Answer::Accepted(n)
+    Ok(n)
 }
 
 // The step between two sides that are in order.
-fn between_sides(left: &[u8], right: &[u8], field: &mut [u8]) -> Answer
+fn between_sides(left: &[u8], right: &[u8], field: &mut [u8]) -> Result<usize, Refusal>
     requires ordered { sides_of (read left.now) (read right.now) ≡ Sides.Ordered }
     ensures answer { result ≡ (between_outcome left.now right.now field.old).answer }
     ensures bytes { field.new ≡ (between_outcome left.now right.now field.old).bytes }
 {
     if field.len() < Code::FIELD {
-        return Answer::Refused(Refusal::Room);
+        return Err(Refusal::Room);
     }
     let made = spread::step(spread::of_field(left), spread::of_field(right));
     let n = made.count;
     if Code::LONGEST < n {
-        return Answer::Refused(Refusal::CodeLength);
+        return Err(Refusal::CodeLength);
     }
     let digits = made.digits;
     write_field(field, &digits[..n]);
-    Answer::Accepted(n)
+    Ok(n)
 }
 
 // The code that a field holds, spread out.

@@ -1,5 +1,6 @@
 -- The three demands hold: for every accepted table, every lent buffer and every run of edits. Each statement is in specs/Demands.
 -- Assumes nothing.
+use Rattle.std.specs.Prelude.{Ok}
 use mathlib.Core.Path.{◌≡◌, refl, sym, ap, ◌∙◌, subst}
 use mathlib.Core.List.{List, []}
 use Prim.Native.Nat.{ℕ, suc, ◌+◌, ◌*◌, ◌≤◌}
@@ -12,7 +13,6 @@ use Rattle.digits.specs.Order.{Digits}
 use Rattle.digits.specs.Code.{Within, Enough}
 use Rattle.digits.proofs.ListLaws.{all_map}
 use Rattle.digits.proofs.CountLaws.{no_better, enough}
-use Rattle.answers.specs.declared.Answer.TheVariants.{Accepted}
 use Rattle.answers.specs.declared.Refusal.TheVariants.{Room, NoCode}
 use Rattle.answers.specs.Outcome.{Outcome}
 use Rattle.answers.proofs.OutcomeLaws.{unless_accepted}
@@ -121,7 +121,7 @@ read_back digits field lent n a room =
     ∙ unpack_written (field_of digits) lent digits (read_field digits (is_code_true digits c.0)) room
 
 -- demand 3
-pub lengths : (table lent : List ℕ) (n : ℕ) → (label_outcome table lent).answer ≡ Accepted n → (m : ℕ)
+pub lengths : (table lent : List ℕ) (n : ℕ) → (label_outcome table lent).answer ≡ Ok n → (m : ℕ)
     → Enough 3 (2 * size (table_tree table)) m → (edits : List Edit) → Demand3 table lent edits m
 lengths table lent n a m e edits =
     let l = label_accepted table lent n a in

@@ -1,6 +1,8 @@
 -- An instance of demands 2 and 3 by computation: the worked register, an insertion at each of the four places, a deletion, two
 -- refused edits.
 -- Assumes nothing.
+use Rattle.std.specs.Prelude.{Result, Ok, Err, ℕ}
+use Rattle.answers.specs.declared.Refusal.{Refusal}
 use mathlib.Core.Path.{◌≡◌, refl}
 use mathlib.Core.List.{List, [], ◌∷◌}
 use Prim.Native.Nat.{ℕ, zero, suc, ◌≤◌, ◌<◌, ◌^◌}
@@ -9,8 +11,6 @@ use lib.IntN.{pos}
 use lib.ListN.{replicate}
 use Rattle.digits.specs.Code.{Enough}
 use Rattle.digits.specs.Thirds.{thirds_deep}
-use Rattle.answers.specs.declared.Answer.{Answer}
-use Rattle.answers.specs.declared.Answer.TheVariants.{Accepted, Refused}
 use Rattle.answers.specs.declared.Refusal.TheVariants.{Identity, Root}
 use Rattle.numbers.specs.Bytes.{put}
 use Rattle.codes.specs.Field.{field_of}
@@ -54,12 +54,12 @@ edits =
     ∷ []
 
 -- the answers of a run
-abbrev answers : List Edit → List ℕ → List Answer
+abbrev answers : List Edit → List ℕ → List (Result ℕ Refusal)
 answers [] bytes = []
 answers (edit ∷ later) bytes = (apply_outcome bytes edit).answer ∷ answers later (apply_outcome bytes edit).bytes
 
 -- the table is accepted, so that the demands speak of it
-accepted : (label_outcome worked_table lent).answer ≡ Accepted 424
+accepted : (label_outcome worked_table lent).answer ≡ Ok 424
 unfolding label_outcome checked_of rows_from rows_of
 accepted = refl
 
@@ -92,7 +92,7 @@ name identity tag = record { identity = identity; tag = tag }
 -- describe, 10 over 11, 15 and 12, 11 over 16, 12 over 17 and 13; and that 12, at place 4, is above 17, at place 5, and not above 15
 pub record Computed : Type 0 where
   pub run_answers : answers edits first
-      ≡ Accepted 3 ∷ Accepted 2 ∷ Refused Root ∷ Accepted 2 ∷ Accepted 6 ∷ Refused Identity ∷ Accepted 5 ∷ []
+      ≡ Ok 3 ∷ Ok 2 ∷ Err Root ∷ Ok 2 ∷ Ok 6 ∷ Err Identity ∷ Ok 5 ∷ []
   pub run_tree : tree_after edits first (table_tree worked_table)
       ≡ node (name 10 1)
       (node (name 11 2) (leaf (name 16 6))

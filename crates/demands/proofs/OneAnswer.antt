@@ -1,7 +1,8 @@
 -- Only one answer, and one content of each lent buffer, can meet a public call's contract.
 -- Assumes nothing.
+use Rattle.std.specs.Prelude.{Result, ℕ}
+use Rattle.answers.specs.declared.Refusal.{Refusal}
 use mathlib.Core.Path.{sym, ◌∙◌}
-use Rattle.answers.specs.declared.Answer.{Answer}
 use Rattle.answers.specs.Outcome.{Outcome}
 use Rattle.answers.specs.Signed.{signed_of, signed_row_of}
 use Rattle.codes.specs.Calls.{pack_outcome, unpack_outcome, between_outcome}
@@ -14,7 +15,7 @@ use Rattle.demands.specs.OneAnswer.{One, OneWith, itself, OneAnswer}
 one : {A : Type 0} (x : A) → One x
 one x a b h k = h ∙ sym k
 
-both : {A : Type 0} (g : Answer → A) (o : Outcome) → OneWith g o
+both : {A : Type 0} (g : Result ℕ Refusal → A) (o : Outcome) → OneWith g o
 both g o a b c d h k = (h.0 ∙ sym k.0, h.1 ∙ sym k.1)
 
 pub one_answer : OneAnswer

@@ -1,6 +1,8 @@
 -- What a run of edits keeps: the buffer holds a sound labelled tree, its plain tree is the one that the accepted edits describe, and
 -- no code is longer than the first ones by more than the number of accepted insertions.
 -- Assumes nothing.
+use Rattle.std.specs.Prelude.{Result, Ok, Err, ℕ}
+use Rattle.answers.specs.declared.Refusal.{Refusal}
 use mathlib.Core.Path.{◌≡◌, refl, sym, ap, ◌∙◌, subst}
 use mathlib.Core.Logic.{◌⊎◌, inl, inr}
 use mathlib.Core.List.{List, [], ◌∷◌, ◌++◌, map}
@@ -8,8 +10,6 @@ use Prim.Native.Nat.{ℕ, suc, ◌+◌, ◌<◌}
 use native.Mathlib.Omega.{arith}
 use Rattle.digits.specs.Lists.{Distinct}
 use Rattle.digits.specs.Code.{Within}
-use Rattle.answers.specs.declared.Answer.{Answer}
-use Rattle.answers.specs.declared.Answer.TheVariants.{Accepted, Refused}
 use Rattle.codes.specs.Field.{field_of}
 use Rattle.trees.specs.Lists.{Member}
 use Rattle.trees.specs.Forest.{Forest, size, preorder}
@@ -71,7 +71,7 @@ module _ (b : List ℕ) (f : Forest (Entry Name)) (h : Holds b f) where
 
 -- an accepted edit: the codes of an insertion are longer by a digit at most
 module _ (b : List ℕ) (f : Forest (Entry Name)) (h : Holds b f) (m : ℕ) (s : Sound (Within 1 3 m) (suc deepest) [] [] [] f) where
-  insert_state : (place : Place) (identity tag n : ℕ) → (apply_outcome b (Insert place identity tag)).answer ≡ Accepted n
+  insert_state : (place : Place) (identity tag n : ℕ) → (apply_outcome b (Insert place identity tag)).answer ≡ Ok n
       → State (apply_outcome b (Insert place identity tag)).bytes (changed (Insert place identity tag) (plain f)) (suc m)
   insert_state place identity tag n a =
       let w = where_of place in
@@ -87,7 +87,7 @@ module _ (b : List ℕ) (f : Forest (Entry Name)) (h : Holds b f) (m : ℕ) (s :
         bounded = inserted_sound m (suc deepest) f q s x (suc m) (omega arith) r.level l.0 l.1;
       }
 
-  delete_state : (target n : ℕ) → (apply_outcome b (Delete target)).answer ≡ Accepted n
+  delete_state : (target n : ℕ) → (apply_outcome b (Delete target)).answer ≡ Ok n
       → State (apply_outcome b (Delete target)).bytes (changed (Delete target) (plain f)) m
   delete_state target n a =
       let r = delete_accepted b f h target n a in
@@ -100,8 +100,8 @@ module _ (b : List ℕ) (f : Forest (Entry Name)) (h : Holds b f) (m : ℕ) (s :
             subst (Sound (Within 1 3 m) (suc deepest) [] [] []) (sym t.taken_out) (sound_rest (Within 1 3 m) (suc deepest) n f t s);
       }
 
-  accepted_state : (e : Edit) (n : ℕ) → (apply_outcome b e).answer ≡ Accepted n
-      → State (apply_outcome b e).bytes (changed e (plain f)) (insertion (Accepted n) e m)
+  accepted_state : (e : Edit) (n : ℕ) → (apply_outcome b e).answer ≡ Ok n
+      → State (apply_outcome b e).bytes (changed e (plain f)) (insertion (Ok n) e m)
   accepted_state (Insert place identity tag) n a = insert_state place identity tag n a
   accepted_state (Delete target) n a = delete_state target n a
 
@@ -110,17 +110,17 @@ step_state : (b : List ℕ) (t : Forest Name) (m : ℕ) → State b t m → (e :
     → State (apply_outcome b e).bytes (answered (apply_outcome b e).answer e t) (insertion (apply_outcome b e).answer e m)
 step_state b t m s e = go (apply_outcome b e).answer refl
   where
-    go : (a : Answer) → (apply_outcome b e).answer ≡ a → State (apply_outcome b e).bytes (answered a e t) (insertion a e m)
-    go (Accepted n) k =
-        subst (λ (u : Forest Name). State (apply_outcome b e).bytes (changed e u) (insertion (Accepted n) e m)) s.named
+    go : (a : Result ℕ Refusal) → (apply_outcome b e).answer ≡ a → State (apply_outcome b e).bytes (answered a e t) (insertion a e m)
+    go (Ok n) k =
+        subst (λ (u : Forest Name). State (apply_outcome b e).bytes (changed e u) (insertion (Ok n) e m)) s.named
         (accepted_state b s.tree s.holds m s.bounded e n k)
-    go (Refused r) k = subst (λ (c : List ℕ). State c t m) (sym (apply_keeps b e r k)) s
+    go (Err r) k = subst (λ (c : List ℕ). State c t m) (sym (apply_keeps b e r k)) s
 
 -- any run
-insertion_add : (a : Answer) (e : Edit) (m k : ℕ) → insertion a e m + k ≡ m + insertion a e k
-insertion_add (Accepted n) (Insert place identity tag) m k = omega arith
-insertion_add (Accepted n) (Delete target) m k = refl
-insertion_add (Refused r) e m k = refl
+insertion_add : (a : Result ℕ Refusal) (e : Edit) (m k : ℕ) → insertion a e m + k ≡ m + insertion a e k
+insertion_add (Ok n) (Insert place identity tag) m k = omega arith
+insertion_add (Ok n) (Delete target) m k = refl
+insertion_add (Err r) e m k = refl
 
 pub run_state : (es : List Edit) (b : List ℕ) (t : Forest Name) (m : ℕ) → State b t m
     → State (run es b) (tree_after es b t) (m + insertions es b)
@@ -180,7 +180,7 @@ included_put g f q u m =
 
 -- demand 2: a present entry's label never changes
 module _ (b : List ℕ) (f : Forest (Entry Name)) (h : Holds b f) where
-  accepted_stay : (e : Edit) (n : ℕ) → (apply_outcome b e).answer ≡ Accepted n
+  accepted_stay : (e : Edit) (n : ℕ) → (apply_outcome b e).answer ≡ Ok n
       → LabelsStay b (plain f) (apply_outcome b e).bytes (changed e (plain f))
   accepted_stay (Insert place identity tag) n a =
       let w = where_of place in
@@ -202,11 +202,11 @@ pub step_stay : (b : List ℕ) (t : Forest Name) (m : ℕ) → State b t m → (
     → LabelsStay b t (apply_outcome b e).bytes (answered (apply_outcome b e).answer e t)
 step_stay b t m s e = go (apply_outcome b e).answer refl
   where
-    go : (a : Answer) → (apply_outcome b e).answer ≡ a → LabelsStay b t (apply_outcome b e).bytes (answered a e t)
-    go (Accepted n) k =
+    go : (a : Result ℕ Refusal) → (apply_outcome b e).answer ≡ a → LabelsStay b t (apply_outcome b e).bytes (answered a e t)
+    go (Ok n) k =
         subst (λ (u : Forest Name). LabelsStay b u (apply_outcome b e).bytes (changed e u)) s.named
         (accepted_stay b s.tree s.holds e n k)
-    go (Refused r) k =
+    go (Err r) k =
         subst (λ (c : List ℕ). LabelsStay b t c t) (sym (apply_keeps b e r k))
         (subst (λ (u : Forest Name). LabelsStay b u b u) s.named
         (labels_stay b b s.tree s.tree s.holds s.holds (inl (λ u n. n))))

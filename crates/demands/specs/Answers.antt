@@ -1,8 +1,7 @@
 -- What it means that a register says rightly which lies under which: its answers, by the definitions that the calls' contracts cite,
 -- beside XPath's relations on the plain tree.
 -- Assumes nothing.
-use Rattle.std.specs.Prelude.{◌≡◌, List, ℕ, ◌<◌, ℤ, pos, negsuc, ◌-ℤ◌, get_or}
-use Rattle.answers.specs.declared.Answer.TheVariants.{Accepted}
+use Rattle.std.specs.Prelude.{◌≡◌, List, ℕ, ◌<◌, ℤ, pos, negsuc, ◌-ℤ◌, get_or, Ok}
 use Rattle.labels.specs.Questions.{order_answer, above_answer, parent_answer, sibling_answer}
 use Rattle.trees.specs.Forest.{Forest, size, preorder}
 use Rattle.trees.specs.Axes.{Parent, Ancestor, Sibling, Before, Depth}
@@ -33,7 +32,7 @@ pub record Right (bytes : List ℕ) (t : Forest Name) (i j : ℕ) : Type 0 where
   pub parent : Says (Parent (entry t i) (entry t j) t) (parent_answer (label_bytes bytes i) (label_bytes bytes j))
   pub sibling : Says (Sibling (entry t i) (entry t j) t) (sibling_answer (label_bytes bytes i) (label_bytes bytes j))
   pub distance : distance_answer bytes (entry t i).identity (entry t j).identity ≡ pos j -ℤ pos i
-  pub place : place_answer bytes (entry t i).identity ≡ Accepted i
+  pub place : place_answer bytes (entry t i).identity ≡ Ok i
   pub depth : (d : ℕ) × (depth_answer bytes (entry t i).identity ≡ pos d) × Depth (entry t i) d t
 
 -- so for any two entries

@@ -1,12 +1,11 @@
 -- The three demands, as statements about the definitions that the public contracts cite. A run begins with an accepted table that is
 -- labelled into a lent buffer of any length, or with a sound register; its edits may be refused or accepted, in any order.
 -- Assumes nothing.
-use Rattle.std.specs.Prelude.{◌≡◌, true, List, [], ℕ, ◌+◌, ◌*◌, ◌≤◌, ◌<◌, length, take, get_or}
+use Rattle.std.specs.Prelude.{◌≡◌, true, List, [], ℕ, ◌+◌, ◌*◌, ◌≤◌, ◌<◌, length, take, get_or, Ok, Err}
 use Rattle.digits.specs.Lists.{All, Distinct}
 use Rattle.digits.specs.Order.{Digits}
 use Rattle.digits.specs.Code.{Within, Enough}
 use Rattle.digits.specs.Thirds.{thirds}
-use Rattle.answers.specs.declared.Answer.TheVariants.{Accepted, Refused}
 use Rattle.answers.specs.declared.Refusal.TheVariants.{CodeLength}
 use Rattle.answers.specs.Outcome.{accepted, Unaltered}
 use Rattle.numbers.specs.Bytes.{put}
@@ -55,7 +54,7 @@ pub record Demand2 (b : List ℕ) (t : Forest Name) (edits : List Edit) : Type 0
 -- from any accepted table, labelled into any lent buffer
 abbrev pub FromTable : Type 0
 FromTable =
-    (table lent : List ℕ) (n : ℕ) → (label_outcome table lent).answer ≡ Accepted n → (edits : List Edit)
+    (table lent : List ℕ) (n : ℕ) → (label_outcome table lent).answer ≡ Ok n → (edits : List Edit)
     → Demand2 (label_outcome table lent).bytes (table_tree table) edits
 
 -- and from any sound register, of the tree that it holds
@@ -70,12 +69,12 @@ pub record FirstCodes (table lent : List ℕ) : Type 0 where
   pub codes_by_rule : codes (labelled_tree table) ≡ thirds [] [] (2 * size (table_tree table) + 1)
 
 abbrev pub EveryTable : Type 0
-EveryTable = (table lent : List ℕ) (n : ℕ) → (label_outcome table lent).answer ≡ Accepted n → FirstCodes table lent
+EveryTable = (table lent : List ℕ) (n : ℕ) → (label_outcome table lent).answer ≡ Ok n → FirstCodes table lent
 
 -- demand 2, packed codes read back as the same digits
 abbrev pub ReadBack : Type 0
 ReadBack =
-    (digits field lent : List ℕ) (n : ℕ) → (pack_outcome digits field).answer ≡ Accepted n → length digits ≤ length lent
+    (digits field lent : List ℕ) (n : ℕ) → (pack_outcome digits field).answer ≡ Ok n → length digits ≤ length lent
     → unpack_outcome (take field_size (pack_outcome digits field).bytes) lent ≡ accepted (length digits) (put lent 0 digits)
 
 -- demand 3, with m least such that 3 ^ m > 2N, N the number of the table's entries, and k the accepted insertions of the run: first
@@ -88,10 +87,10 @@ pub record Demand3 (table lent : List ℕ) (edits : List Edit) (m : ℕ) : Type 
       × (length u.end ≤ m + insertions edits (label_outcome table lent).bytes))
       (lines_of (run edits (label_outcome table lent).bytes))
   pub fits : m + insertions edits (label_outcome table lent).bytes < longest → (edit : Edit)
-      → (apply_outcome (run edits (label_outcome table lent).bytes) edit).answer ≡ Refused CodeLength → ⊥
+      → (apply_outcome (run edits (label_outcome table lent).bytes) edit).answer ≡ Err CodeLength → ⊥
 
 -- for every accepted table there is such an m
 abbrev pub Lengths : Type 0
 Lengths =
-    (table lent : List ℕ) (n : ℕ) → (label_outcome table lent).answer ≡ Accepted n
+    (table lent : List ℕ) (n : ℕ) → (label_outcome table lent).answer ≡ Ok n
     → (m : ℕ) × Enough 3 (2 * size (table_tree table)) m × ((edits : List Edit) → Demand3 table lent edits m)

@@ -1,7 +1,7 @@
 -- One answer per contract: for each public call, in Rattle and in C, two results that meet its contract are the same, to every lent byte.
 -- Assumes nothing.
-use Rattle.std.specs.Prelude.{◌≡◌, List, ℕ}
-use Rattle.answers.specs.declared.Answer.{Answer}
+use Rattle.std.specs.Prelude.{◌≡◌, List, ℕ, Result}
+use Rattle.answers.specs.declared.Refusal.{Refusal}
 use Rattle.answers.specs.Outcome.{Outcome}
 use Rattle.answers.specs.Signed.{signed_of, signed_row_of}
 use Rattle.codes.specs.Calls.{pack_outcome, unpack_outcome, between_outcome}
@@ -19,12 +19,12 @@ abbrev pub One : {A : Type 0} → A → Type 0
 One {A} x = (a b : A) → a ≡ x → b ≡ x → a ≡ b
 
 -- a call that writes: its contract says which answer, read by g, and which bytes
-abbrev pub OneWith : {A : Type 0} → (Answer → A) → Outcome → Type 0
+abbrev pub OneWith : {A : Type 0} → (Result ℕ Refusal → A) → Outcome → Type 0
 OneWith {A} g o =
     (a b : A) (c d : List ℕ) → (a ≡ g o.answer) × (c ≡ o.bytes) → (b ≡ g o.answer) × (d ≡ o.bytes) → (a ≡ b) × (c ≡ d)
 
 -- the answer itself
-abbrev pub itself : Answer → Answer
+abbrev pub itself : Result ℕ Refusal → Result ℕ Refusal
 itself a = a
 
 pub record OneAnswer : Type 0 where

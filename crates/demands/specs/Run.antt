@@ -1,9 +1,8 @@
 -- A run of edits over a lent buffer, the plain tree that the accepted ones describe, and how many of them were insertions.
 -- The plain tree knows nothing of codes or bytes.
 -- Assumes nothing.
-use Rattle.std.specs.Prelude.{List, [], ◌∷◌, map, ℕ, zero, suc}
-use Rattle.answers.specs.declared.Answer.{Answer}
-use Rattle.answers.specs.declared.Answer.TheVariants.{Accepted, Refused}
+use Rattle.std.specs.Prelude.{List, [], ◌∷◌, map, ℕ, zero, suc, Result, Ok, Err}
+use Rattle.answers.specs.declared.Refusal.{Refusal}
 use Rattle.trees.specs.Forest.{Forest, preorder}
 use Rattle.trees.specs.Labelled.{Name}
 use Rattle.trees.specs.Edit.{inserted, without}
@@ -32,9 +31,9 @@ abbrev pub changed : Edit → Forest Name → Forest Name
 changed edit t = changed_at (number_in (target_in edit) t) edit t
 
 -- a refused edit changes nothing
-abbrev pub answered : Answer → Edit → Forest Name → Forest Name
-answered (Accepted place) edit t = changed edit t
-answered (Refused refusal) edit t = t
+abbrev pub answered : Result ℕ Refusal → Edit → Forest Name → Forest Name
+answered (Ok place) edit t = changed edit t
+answered (Err refusal) edit t = t
 
 -- the bytes after a run: each edit is applied to what the one before it left
 abbrev pub run : List Edit → List ℕ → List ℕ
@@ -48,10 +47,10 @@ tree_after (edit ∷ edits) bytes t =
     tree_after edits (apply_outcome bytes edit).bytes (answered (apply_outcome bytes edit).answer edit t)
 
 -- one more than k for an accepted insertion
-abbrev pub insertion : Answer → Edit → ℕ → ℕ
-insertion (Accepted place) (Insert p identity tag) k = suc k
-insertion (Accepted place) (Delete target) k = k
-insertion (Refused refusal) edit k = k
+abbrev pub insertion : Result ℕ Refusal → Edit → ℕ → ℕ
+insertion (Ok place) (Insert p identity tag) k = suc k
+insertion (Ok place) (Delete target) k = k
+insertion (Err refusal) edit k = k
 
 -- how many insertions of a run were accepted
 abbrev pub insertions : List Edit → List ℕ → ℕ

@@ -3,7 +3,6 @@
 
 ghost use Rattle.std.specs.Prelude.{◌≡◌, ◌<◌, ◌≤◌, length};
 
-use answers::Answer;
 use codes::Code;
 use edits::{Edit, Place};
 use printer::{answered, text};
@@ -69,7 +68,7 @@ fn deletions(rt: &impl Print) -> io::Result<()> {
     edited(rt, b"delete 11:", Edit::Delete { target: 11 })?;
     let mut register = [FILL; 528];
     worked(&mut register);
-    edits::apply(&mut register, Edit::Delete { target: 13 });
+    let _ = edits::apply(&mut register, Edit::Delete { target: 13 });
     number(
         rt,
         b"bytes of the freed 104 that are not zero: ",
@@ -92,7 +91,7 @@ fn edited(rt: &impl Print, name: &[u8], edit: Edit) -> io::Result<()> {
 
 // 01's worked register.
 fn worked(register: &mut [u8]) {
-    tables::label(&WORKED, register);
+    let _ = tables::label(&WORKED, register);
 }
 
 // Edits a register, and prints the answer on a line.
@@ -300,7 +299,7 @@ fn freed(rt: &impl Print) -> io::Result<()> {
 // From one row, always first child of the root: the codes grow to 127 digits. 4 comes before 8.
 fn growth(rt: &impl Print) -> io::Result<()> {
     let mut register = [FILL; 13320];
-    tables::label(&[1, 0, 0], &mut register);
+    let _ = tables::label(&[1, 0, 0], &mut register);
     number(
         rt,
         b"always first child of the root, accepted: ",
@@ -338,7 +337,7 @@ fn growth(rt: &impl Print) -> io::Result<()> {
 // Each start has as many digits as the end before it, each end one more: at last only the end would pass 127.
 fn ends(rt: &impl Print) -> io::Result<()> {
     let mut register = [FILL; 13320];
-    tables::label(&[900, 0, 0, 901, 0, 1], &mut register);
+    let _ = tables::label(&[900, 0, 0, 901, 0, 1], &mut register);
     attempt(
         rt,
         b"first child of 900:",
@@ -364,7 +363,7 @@ fn ends(rt: &impl Print) -> io::Result<()> {
 // From one row, always first child of the last one put in: depth 63 is reached. 3 comes before 10, 10 before 4.
 fn depths(rt: &impl Print) -> io::Result<()> {
     let mut register = [FILL; 6872];
-    tables::label(&[1, 0, 0], &mut register);
+    let _ = tables::label(&[1, 0, 0], &mut register);
     number(
         rt,
         b"always one deeper, accepted: ",
@@ -413,7 +412,7 @@ fn depths(rt: &impl Print) -> io::Result<()> {
 fn grown(register: &mut [u8], way: Way) -> u64 {
     let mut n = 0;
     while n < 4096 {
-        let Answer::Accepted(_) = edits::apply(register, next(n, way)) else {
+        let Ok(_) = edits::apply(register, next(n, way)) else {
             return n as u64;
         };
         n += 1;
@@ -465,7 +464,7 @@ fn many(register: &mut [u8]) {
         row += 1;
     }
     numbers[2] = 0;
-    tables::label(&numbers, register);
+    let _ = tables::label(&numbers, register);
 }
 
 fn digit_count(rt: &impl Print, name: &[u8], field: &[u8]) -> io::Result<()> {

@@ -1,5 +1,7 @@
 -- An edit of a register is the edit of the tree that it holds: accepted, the tree with the new leaf or without the old one; refused,
 -- no byte changed. Assumes nothing.
+use Rattle.answers.specs.declared.Refusal.{Refusal}
+use Rattle.std.specs.Prelude.{Result, Ok}
 use mathlib.Core.Path.{◌≡◌, refl, sym, ap, ◌∙◌, subst}
 use mathlib.Core.Logic.{◌≢◌}
 use mathlib.Core.Bool.{true, and-eq-true_iff}
@@ -11,7 +13,6 @@ use lib.ListN.{length, take}
 use borrow.Author.Tests.{leb-true}
 use Rattle.digits.specs.Lists.{All, Distinct}
 use Rattle.digits.proofs.ListLaws.{all_part, all_join}
-use Rattle.answers.specs.declared.Answer.TheVariants.{Accepted}
 use Rattle.answers.specs.declared.Refusal.TheVariants.{CodeLength}
 use Rattle.answers.specs.Outcome.{Outcome, accepted, Unaltered}
 use Rattle.answers.proofs.OutcomeLaws.{accepted_refused, unless_accepted, keeps_unless, keeps_accepted}
@@ -140,8 +141,8 @@ pub record Deleted (b : List ℕ) (t : ℕ) (f : Forest (Entry Name)) (n : ℕ) 
   pub taken : Taken n f
   pub holds : Holds after (without n f)
 
-answered : (o : Outcome) (n k : ℕ) (c : List ℕ) → o ≡ accepted k c → o.answer ≡ Accepted n → n ≡ k
-answered o n k c e a = let z : Accepted n ≡ Accepted k = sym a ∙ ap (λ (p : Outcome). p.answer) e in cc
+answered : (o : Outcome) (n k : ℕ) (c : List ℕ) → o ≡ accepted k c → o.answer ≡ Ok n → n ≡ k
+answered o n k c e a = let z : ◌≡◌ {A = Result ℕ Refusal} (Ok n) (Ok k) = sym a ∙ ap (λ (p : Outcome). p.answer) e in cc
 
 -- in terms of the tree that the lines stand for
 module _ (b : List ℕ) (h : Holds b (tree_in b)) where
@@ -152,7 +153,7 @@ module _ (b : List ℕ) (h : Holds b (tree_in b)) where
   inside_tree t i e = omega (arith, found_inside b t i e, count_size b g h)
 
   -- the codes of the new entry fit
-  put_held : (w : Where) (t : ℕ) (m : Name) (n i : ℕ) → Passed b w t m i → (put_outcome b m g (spot_in b w i)).answer ≡ Accepted n
+  put_held : (w : Where) (t : ℕ) (m : Name) (n i : ℕ) → Passed b w t m i → (put_outcome b m g (spot_in b w i)).answer ≡ Ok n
       → Inserted b w t m g n (put_outcome b m g (spot_in b w i)).bytes
   put_held w t m n i c a =
       let q = spot_in b w i in
@@ -173,34 +174,34 @@ module _ (b : List ℕ) (h : Holds b (tree_in b)) where
             (subst (λ us. is_fresh m.identity (identities us) ≡ true) (lines_held b g h) c.new) c.level c.room s e);
       }
 
-  cut_held : (t n i : ℕ) → found_in b t ≡ At i → 0 < i → is_leaf i g ≡ true → Accepted i ≡ Accepted n → Deleted b t g n (deleted_bytes b i)
+  cut_held : (t n i : ℕ) → found_in b t ≡ At i → 0 < i → is_leaf i g ≡ true → ◌≡◌ {A = Result ℕ Refusal} (Ok i) (Ok n) → Deleted b t g n (deleted_bytes b i)
   cut_held t n i k p l a =
       let w = taken g i (inside_tree t i k) l in
       let r : Deleted b t g i (deleted_bytes b i) =
       record { target = k; taken = w; holds = deleted_held b g h i (inside_tree t i k) p w } in
       subst (λ j. Deleted b t g j (deleted_bytes b i)) (answered (accepted i (deleted_bytes b i)) i n (deleted_bytes b i) (cc) refl) r
 
-  insert_here : (w : Where) (t : ℕ) (m : Name) (n : ℕ) → (insert_outcome b w t m).answer ≡ Accepted n
+  insert_here : (w : Where) (t : ℕ) (m : Name) (n : ℕ) → (insert_outcome b w t m).answer ≡ Ok n
       → Inserted b w t m g n (insert_outcome b w t m).bytes
   insert_here w t m n =
-      insert_cases b (λ o. o.answer ≡ Accepted n → Inserted b w t m g n o.bytes) (λ r _ e. accepted_refused (sym e)) w t m
+      insert_cases b (λ o. o.answer ≡ Ok n → Inserted b w t m g n o.bytes) (λ r _ e. accepted_refused (sym e)) w t m
       (put_held w t m n)
 
-  delete_here : (t n : ℕ) → (delete_outcome b t).answer ≡ Accepted n → Deleted b t g n (delete_outcome b t).bytes
+  delete_here : (t n : ℕ) → (delete_outcome b t).answer ≡ Ok n → Deleted b t g n (delete_outcome b t).bytes
   delete_here t n =
-      delete_cases b (λ o. o.answer ≡ Accepted n → Deleted b t g n o.bytes) (λ r _ e. accepted_refused (sym e)) t
+      delete_cases b (λ o. o.answer ≡ Ok n → Deleted b t g n o.bytes) (λ r _ e. accepted_refused (sym e)) t
       (λ i _ k p l a. cut_held t n i k p l a)
 
 module _ (b : List ℕ) (f : Forest (Entry Name)) (h : Holds b f) where
   here : Holds b (tree_in b)
   here = subst (Holds b) (sym (tree_held b f h)) h
 
-  pub insert_accepted : (w : Where) (t : ℕ) (m : Name) (n : ℕ) → (insert_outcome b w t m).answer ≡ Accepted n
+  pub insert_accepted : (w : Where) (t : ℕ) (m : Name) (n : ℕ) → (insert_outcome b w t m).answer ≡ Ok n
       → Inserted b w t m f n (insert_outcome b w t m).bytes
   insert_accepted w t m n a =
       subst (λ g. Inserted b w t m g n (insert_outcome b w t m).bytes) (tree_held b f h) (insert_here b here w t m n a)
 
-  pub delete_accepted : (t n : ℕ) → (delete_outcome b t).answer ≡ Accepted n → Deleted b t f n (delete_outcome b t).bytes
+  pub delete_accepted : (t n : ℕ) → (delete_outcome b t).answer ≡ Ok n → Deleted b t f n (delete_outcome b t).bytes
   delete_accepted t n a = subst (λ g. Deleted b t g n (delete_outcome b t).bytes) (tree_held b f h) (delete_here b here t n a)
 
 -- a refused edit leaves every byte

@@ -20,7 +20,7 @@ ghost use Rattle.edits.specs.Edits.{where_of, target_of, is_parented, has_room, 
 
 mod search;
 
-use answers::{Answer, Refusal};
+use answers::Refusal;
 use codes::Code;
 use registers::{DEEPEST, ENTRY, Found, MOST, end_place, entry_place, parent_place, start_place};
 
@@ -53,7 +53,7 @@ struct Gap {
 }
 
 // Puts one entry in or takes one leaf out, and answers its place. An insertion refuses 5, 6, 7, 3, 10, 4, 8, a deletion 5, 6, 7, 9.
-pub fn apply(register: &mut [u8], edit: Edit) -> Answer
+pub fn apply(register: &mut [u8], edit: Edit) -> Result<usize, Refusal>
     ensures answer { result ≡ (apply_outcome register.old edit).answer }
     ensures bytes { register.new ≡ (apply_outcome register.old edit).bytes }
 {
@@ -67,23 +67,23 @@ pub fn apply(register: &mut [u8], edit: Edit) -> Answer
     }
 }
 
-fn insert(register: &mut [u8], place: Place, identity: u32, tag: u32) -> Answer
+fn insert(register: &mut [u8], place: Place, identity: u32, tag: u32) -> Result<usize, Refusal>
     ensures answer { result
         ≡ (insert_outcome register.old (where_of place) (target_of place) (record { identity = identity; tag = tag })).answer }
     ensures bytes { register.new
         ≡ (insert_outcome register.old (where_of place) (target_of place) (record { identity = identity; tag = tag })).bytes }
 {
     if !registers::sound(register) {
-        return Answer::Refused(Refusal::Register);
+        return Err(Refusal::Register);
     }
     let Found::At(at) = registers::find(register, target_of(place)) else {
-        return Answer::Refused(Refusal::Target);
+        return Err(Refusal::Target);
     };
     insert_at(register, place, at, identity, tag)
 }
 
 // An insertion whose target is entry `at`. Refuses 7, 3, 10, 4, 8.
-fn insert_at(register: &mut [u8], place: Place, at: usize, identity: u32, tag: u32) -> Answer
+fn insert_at(register: &mut [u8], place: Place, at: usize, identity: u32, tag: u32) -> Result<usize, Refusal>
     requires sound { is_register_sound register.old ≡ true }
     requires at { at < count_of register.old }
     ensures answer { result
@@ -92,52 +92,52 @@ fn insert_at(register: &mut [u8], place: Place, at: usize, identity: u32, tag: u
         ≡ (insert_at register.old (where_of place) at (record { identity = identity; tag = tag })).bytes }
 {
     if !parented(place, at) {
-        return Answer::Refused(Refusal::Root);
+        return Err(Refusal::Root);
     }
     if !fresh(register, identity) {
-        return Answer::Refused(Refusal::Identity);
+        return Err(Refusal::Identity);
     }
     if (DEEPEST as usize) < level(register, place, at) {
-        return Answer::Refused(Refusal::Depth);
+        return Err(Refusal::Depth);
     }
     if !has_room(register) {
-        return Answer::Refused(Refusal::Room);
+        return Err(Refusal::Room);
     }
     put_in(register, place, at, identity, tag)
 }
 
-fn delete(register: &mut [u8], target: u32) -> Answer
+fn delete(register: &mut [u8], target: u32) -> Result<usize, Refusal>
     ensures answer { result ≡ (delete_outcome register.old target).answer }
     ensures bytes { register.new ≡ (delete_outcome register.old target).bytes }
 {
     if !registers::sound(register) {
-        return Answer::Refused(Refusal::Register);
+        return Err(Refusal::Register);
     }
     let Found::At(at) = registers::find(register, target) else {
-        return Answer::Refused(Refusal::Target);
+        return Err(Refusal::Target);
     };
     delete_at(register, at)
 }
 
 // A deletion whose target is entry `at`. Refuses 7, 9.
-fn delete_at(register: &mut [u8], at: usize) -> Answer
+fn delete_at(register: &mut [u8], at: usize) -> Result<usize, Refusal>
     requires sound { is_register_sound register.old ≡ true }
     requires at { at < count_of register.old }
     ensures answer { result ≡ (delete_at register.old at).answer }
     ensures bytes { register.new ≡ (delete_at register.old at).bytes }
 {
     if at == 0 {
-        return Answer::Refused(Refusal::Root);
+        return Err(Refusal::Root);
     }
     if !search::leaf(register, at) {
-        return Answer::Refused(Refusal::Children);
+        return Err(Refusal::Children);
     }
     take_out(register, at);
-    Answer::Accepted(at)
+    Ok(at)
 }
 
 // Puts an entry in at a place of entry `at`, with the codes between its neighbours. Refuses 8.
-fn put_in(register: &mut [u8], place: Place, at: usize, identity: u32, tag: u32) -> Answer
+fn put_in(register: &mut [u8], place: Place, at: usize, identity: u32, tag: u32) -> Result<usize, Refusal>
     requires sound { is_register_sound register.old ≡ true }
     requires at { at < count_of register.old }
     requires parented { is_parented (where_of place) at ≡ true }
@@ -151,16 +151,16 @@ fn put_in(register: &mut [u8], place: Place, at: usize, identity: u32, tag: u32)
     let right = registers::code_at(register, gap.right);
     let start = codes::step(registers::code_at(register, gap.left), right);
     if Code::LONGEST < start.len() {
-        return Answer::Refused(Refusal::CodeLength);
+        return Err(Refusal::CodeLength);
     }
     let end = codes::step(start, right);
     if Code::LONGEST < end.len() {
-        return Answer::Refused(Refusal::CodeLength);
+        return Err(Refusal::CodeLength);
     }
     let parent = registers::code_at(register, parent_from(place, at));
     let i = search::starts_below(register, gap.right);
     write_in(register, i, identity, tag, start, end, parent);
-    Answer::Accepted(i)
+    Ok(i)
 }
 
 // The neighbours of a place: one is the target's own code, the other is found.

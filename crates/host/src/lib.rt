@@ -10,6 +10,7 @@ ghost use Rattle.tables.specs.Labelling.{label_outcome};
 ghost use Rattle.edits.specs.Edits.{apply_outcome};
 ghost use Rattle.labels.specs.Questions.{order_answer, above_answer, parent_answer, sibling_answer};
 
+use answers::Signed;
 use codes::Code;
 use edits::{Edit, Place};
 
@@ -62,7 +63,7 @@ pub fn plant_label(table: &[u32], register: &mut [u8]) -> i64
     ensures answer { result ≡ signed_row_of (label_outcome table.now register.old).answer }
     ensures bytes { register.new ≡ (label_outcome table.now register.old).bytes }
 {
-    tables::label(table, register).signed_row()
+    answers::signed_row(tables::label(table, register))
 }
 
 pub fn plant_place(register: &[u8], identity: u32) -> i32

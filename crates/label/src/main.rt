@@ -5,7 +5,6 @@ ghost use Rattle.std.specs.Prelude.{◌*◌, ◌≤◌, length};
 ghost use Rattle.tables.specs.Table.{row_size};
 ghost use Rattle.texts.specs.Reading.{most_lines};
 
-use answers::Answer;
 use registers::{ENTRY, HEADER};
 use std::io;
 use tables::ROW;
@@ -31,7 +30,7 @@ fn label(rt: &impl Print, table: &[u32]) -> io::Result<()>
 {
     let mut register = [0u8; HEADER + ENTRY * MOST_LINES];
     match tables::label(table, &mut register) {
-        Answer::Accepted(_) => printer::lines(rt, &register, table.len() / ROW),
-        Answer::Refused(refusal) => printer::refused(rt, refusal),
+        Ok(_) => printer::lines(rt, &register, table.len() / ROW),
+        Err(refusal) => printer::refused(rt, refusal),
     }
 }

@@ -4,7 +4,7 @@
 ghost use Rattle.std.specs.Prelude.{◌+◌, ◌≤◌, length};
 ghost use Rattle.registers.specs.Layout.{entry_place, entry_size};
 
-use answers::{Answer, Refusal};
+use answers::Refusal;
 use std::io;
 use std::io::Write;
 use texts::LINE;
@@ -42,12 +42,12 @@ pub fn unreadable(rt: &impl Print) -> io::Result<()> {
 }
 
 // Prints a call's answer: its number, or `refused` and the paper's number.
-pub fn answered(rt: &impl Print, answer: Answer) -> io::Result<()> {
+pub fn answered(rt: &impl Print, answer: Result<usize, Refusal>) -> io::Result<()> {
     match answer {
-        Answer::Accepted(n) => {
+        Ok(n) => {
             print!(rt; " {n}")?;
         }
-        Answer::Refused(refusal) => {
+        Err(refusal) => {
             let number = refusal.number();
             print!(rt; " refused {number}")?;
         }

@@ -1,4 +1,5 @@
 -- Laws of the size of a register, of its identities, and of the loops that look for one or count what is above one. Assumes nothing.
+use Rattle.std.specs.Prelude.{Err}
 use mathlib.Core.Path.{◌≡◌, refl, sym, ap, ◌∙◌, subst}
 use mathlib.Core.Bool.{Bool, true, false, cond, ◌&&◌, and-eq-true_iff}
 use mathlib.Core.List.{List, [], ◌∷◌, ◌++◌}
@@ -19,7 +20,6 @@ use Rattle.digits.specs.Order.{is_below}
 use Rattle.digits.proofs.ListLaws.{all_at}
 use Rattle.numbers.specs.Bytes.{number_at}
 use Rattle.codes.specs.Code.{IsCode}
-use Rattle.answers.specs.declared.Answer.TheVariants.{Refused}
 use Rattle.answers.specs.declared.Refusal.TheVariants.{Register, Target}
 use Rattle.answers.specs.Number.{number_of}
 use Rattle.answers.specs.Signed.{refused_as, Signable}
@@ -320,7 +320,7 @@ module _ (i j : ℕ) (h : i < 4096) (k : j < 4096) where
 
 -- what the questions answer
 module _ (b : List ℕ) (x : ℕ) where
-  pub place_unsound : is_register_sound b ≡ false → Refused Register ≡ place_answer b x
+  pub place_unsound : is_register_sound b ≡ false → Err Register ≡ place_answer b x
   unfolding place_answer
   place_unsound e = rw e refl
 
@@ -354,7 +354,7 @@ pub place_signable : (b : List ℕ) (x : ℕ) → Signable (place_answer b x)
 unfolding place_answer
 place_signable b x = go (is_register_sound b) refl (found_in b x) refl
   where
-    go : (t : Bool) → is_register_sound b ≡ t → (f : Found) → found_in b x ≡ f → Signable (cond t (place_as f) (Refused Register))
+    go : (t : Bool) → is_register_sound b ≡ t → (f : Found) → found_in b x ≡ f → Signable (cond t (place_as f) (Err Register))
     go false e f g = tt
     go true e (At i) g = omega (arith, found_inside b x i g, (sized_of b e).most)
     go true e Nothing g = tt

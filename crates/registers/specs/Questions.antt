@@ -1,8 +1,7 @@
 -- A sound register as one test, and the questions on a register: place, depth, distance. Assumes nothing.
-use Rattle.std.specs.Prelude.{Bool, cond, ◌&&◌, List, [], ◌∷◌, map, ℕ, suc, ◌+◌, eqb, leb, ℤ, pos, ◌-ℤ◌, length}
+use Rattle.std.specs.Prelude.{Bool, cond, ◌&&◌, List, [], ◌∷◌, map, ℕ, suc, ◌+◌, eqb, leb, ℤ, pos, ◌-ℤ◌, length, Result, Ok, Err}
+use Rattle.answers.specs.declared.Refusal.{Refusal}
 use Rattle.digits.specs.Order.{is_below}
-use Rattle.answers.specs.declared.Answer.{Answer}
-use Rattle.answers.specs.declared.Answer.TheVariants.{Accepted, Refused}
 use Rattle.answers.specs.declared.Refusal.TheVariants.{Register, Target}
 use Rattle.answers.specs.Number.{number_of}
 use Rattle.answers.specs.Signed.{refused_as}
@@ -45,12 +44,12 @@ abbrev pub found_in : List ℕ → ℕ → Found
 found_in bytes x = found_from 0 x (identities (lines_of bytes))
 
 -- 01, Register questions: 5, 6
-abbrev pub place_as : Found → Answer
-place_as (At i) = Accepted i
-place_as Nothing = Refused Target
+abbrev pub place_as : Found → Result ℕ Refusal
+place_as (At i) = Ok i
+place_as Nothing = Err Target
 
-unfoldable pub place_answer : List ℕ → ℕ → Answer
-place_answer bytes x = cond (is_register_sound bytes) (place_as (found_in bytes x)) (Refused Register)
+unfoldable pub place_answer : List ℕ → ℕ → Result ℕ Refusal
+place_answer bytes x = cond (is_register_sound bytes) (place_as (found_in bytes x)) (Err Register)
 
 -- 01, Above, of two entries; the depth of an entry is the number of those above it
 abbrev pub is_above_entry : Entry Name → Entry Name → Bool

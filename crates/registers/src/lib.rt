@@ -16,7 +16,7 @@ ghost use Rattle.registers.specs.Layout.{most_entries, count_at, header_size, en
 
 mod walk;
 
-use answers::{Answer, Refusal};
+use answers::Refusal;
 use codes::Code;
 use labels::{END, LABEL, PARENT, START};
 pub use walk::{code_at, end_place, fields_below, parent_place, start_place};
@@ -50,16 +50,16 @@ pub enum Found {
 }
 
 // The place of an identity, from 0. Refuses 5, 6.
-pub fn place(register: &[u8], identity: u32) -> Answer
+pub fn place(register: &[u8], identity: u32) -> Result<usize, Refusal>
     ensures answer { result ≡ place_answer register.now identity }
 {
     if !sound(register) {
-        return Answer::Refused(Refusal::Register);
+        return Err(Refusal::Register);
     }
     let Found::At(place) = find(register, identity) else {
-        return Answer::Refused(Refusal::Target);
+        return Err(Refusal::Target);
     };
-    Answer::Accepted(place)
+    Ok(place)
 }
 
 // The depth of an identity. Refuses 5, 6.

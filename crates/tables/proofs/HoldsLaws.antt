@@ -1,4 +1,5 @@
 -- An accepted table gives a sound register whose plain tree is the table's, with first codes of at most m digits. Assumes nothing.
+use Rattle.std.specs.Prelude.{Ok}
 use mathlib.Core.Path.{◌≡◌, refl, sym, ap, ◌∙◌, subst}
 use mathlib.Core.Logic.{◌≢◌}
 use mathlib.Core.Bool.{true}
@@ -10,7 +11,6 @@ use lib.ListN.{length, take}
 use borrow.Author.Tests.{leb-true}
 use Rattle.digits.specs.Lists.{All, Distinct}
 use Rattle.digits.specs.Code.{Within, Enough}
-use Rattle.answers.specs.declared.Answer.TheVariants.{Accepted}
 use Rattle.answers.specs.declared.Refusal.TheVariants.{Room}
 use Rattle.answers.specs.Outcome.{Outcome, Unaltered}
 use Rattle.answers.proofs.OutcomeLaws.{accepted_refused, unless_accepted, keeps_unless, keeps_accepted}
@@ -98,11 +98,11 @@ pub record Labelled (table lent : List ℕ) : Type 0 where
   pub checked : checked_of table ≡ Rows rows
   pub room : entry_place rows ≤ length lent
 
-pub label_accepted : (table lent : List ℕ) (n : ℕ) → (label_outcome table lent).answer ≡ Accepted n → Labelled table lent
+pub label_accepted : (table lent : List ℕ) (n : ℕ) → (label_outcome table lent).answer ≡ Ok n → Labelled table lent
 unfolding label_outcome
 label_accepted table lent n a = go (checked_of table) refl a
   where
-    go : (k : Checked) → checked_of table ≡ k → (label_as k table lent).answer ≡ Accepted n → Labelled table lent
+    go : (k : Checked) → checked_of table ≡ k → (label_as k table lent).answer ≡ Ok n → Labelled table lent
     go (Bad refusal) e h = accepted_refused (sym h)
     go (Rows k) e h =
         let t = unless_accepted (leb (entry_place k) (length lent)) Room lent _ n h in

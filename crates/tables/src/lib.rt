@@ -9,7 +9,7 @@ ghost use Rattle.tables.specs.Rows.{HasRow, identity_of, tag_of, depth_of, is_de
 
 mod walk;
 
-use answers::{Answer, Refusal};
+use answers::Refusal;
 use codes::Code;
 use identities::PLACES;
 use registers::{DEEPEST, ENTRY, HEADER, MOST};
@@ -26,25 +26,25 @@ pub enum Checked {
 }
 
 // Writes the register of a table, with first codes, and answers its bytes. Refuses 1, 2, 3, 4.
-pub fn label(table: &[u32], register: &mut [u8]) -> Answer
+pub fn label(table: &[u32], register: &mut [u8]) -> Result<usize, Refusal>
     ensures answer { result ≡ (label_outcome table.now register.old).answer }
     ensures bytes { register.new ≡ (label_outcome table.now register.old).bytes }
 {
     match check(table) {
-        Checked::Bad(refusal) => Answer::Refused(refusal),
+        Checked::Bad(refusal) => Err(refusal),
         Checked::Rows(n) => label_rows(table, n, register),
     }
 }
 
 // The register of an accepted table.
-fn label_rows(table: &[u32], n: usize, register: &mut [u8]) -> Answer
+fn label_rows(table: &[u32], n: usize, register: &mut [u8]) -> Result<usize, Refusal>
     requires accepted { checked_of table.now ≡ Checked.Rows n }
     ensures answer { result ≡ (label_outcome table.now register.old).answer }
     ensures bytes { register.new ≡ (label_outcome table.now register.old).bytes }
 {
     let size = HEADER + ENTRY * n;
     if register.len() < size {
-        return Answer::Refused(Refusal::Room);
+        return Err(Refusal::Room);
     }
     registers::write_header(register, n);
     let mut path = [0usize; DEEPEST as usize + 1];
@@ -57,7 +57,7 @@ fn label_rows(table: &[u32], n: usize, register: &mut [u8]) -> Answer
         Code::open(),
         2 * n + 1,
     );
-    Answer::Accepted(size)
+    Ok(size)
 }
 
 // Goes through a table by its rules. Refuses 1, 2, 3.

@@ -1,4 +1,5 @@
 -- Laws of a code's text: what unpacking a field leaves, what is printed of it, and how many bytes that has. Assumes nothing.
+use Rattle.std.specs.Prelude.{Result, Ok, Err, ℕ}
 use mathlib.Core.Path.{◌≡◌, refl, sym, ap, ◌∙◌}
 use mathlib.Core.List.{List, [], ◌∷◌, ◌++◌, map}
 use Prim.Native.Nat.{ℕ, ◌+◌, ◌≤◌, ◌<◌}
@@ -8,8 +9,6 @@ use lib.ListN.{length, take, get_or, set, length-map}
 use lib.Seq.{take-suc, length-take-le}
 use Rattle.digits.specs.Lists.{All}
 use Rattle.digits.specs.Order.{Digits}
-use Rattle.answers.specs.declared.Answer.{Answer}
-use Rattle.answers.specs.declared.Answer.TheVariants.{Accepted, Refused}
 use Rattle.answers.specs.declared.Refusal.{Refusal}
 use Rattle.numbers.specs.Bytes.{put}
 use Rattle.numbers.proofs.PutLaws.{put_run, put_length, put_snoc}
@@ -49,8 +48,8 @@ pub record Unpacked (field : List ℕ) (n : ℕ) (left : List ℕ) : Type 0 wher
   pub digits : take n left ≡ side_of (read field)
   pub fits : n ≤ length left
 
-module _ (field lent : List ℕ) (room : longest ≤ length lent) (answer : Answer) (e : answer ≡ (unpack_outcome field lent).answer) where
-  pub refused_side : (why : Refusal) → answer ≡ Refused why → side_of (read field) ≡ []
+module _ (field lent : List ℕ) (room : longest ≤ length lent) (answer : Result ℕ Refusal) (e : answer ≡ (unpack_outcome field lent).answer) where
+  pub refused_side : (why : Refusal) → answer ≡ Err why → side_of (read field) ≡ []
   refused_side why r = go (read field) refl
     where
       go : (k : Reading) → read field ≡ k → side_of k ≡ []
@@ -61,7 +60,7 @@ module _ (field lent : List ℕ) (room : longest ≤ length lent) (answer : Answ
       go empty h = refl
       go unsound h = refl
 
-  pub accepted_side : (n : ℕ) (left : List ℕ) → left ≡ (unpack_outcome field lent).bytes → answer ≡ Accepted n → Unpacked field n left
+  pub accepted_side : (n : ℕ) (left : List ℕ) → left ≡ (unpack_outcome field lent).bytes → answer ≡ Ok n → Unpacked field n left
   accepted_side n left f a = go (read field) refl
     where
       go : (k : Reading) → read field ≡ k → Unpacked field n left

@@ -13,7 +13,7 @@ ghost use Rattle.answers.specs.Number.{number_of};
 ghost use Rattle.texts.specs.Reading.{most_lines, number_limit, is_digit, longer, is_following, read_number, read_line, read_text};
 ghost use Rattle.texts.specs.Answers.{FoundIn, RowIn, lines_of};
 
-use answers::{Answer, Refusal};
+use answers::Refusal;
 use codes::Code;
 use registers::{ENTRY, ENTRY_LABEL, HEADER, IDENTITY, TAG};
 
@@ -108,7 +108,7 @@ fn field_at(out: &mut [u8], at: usize, field: &[u8]) -> usize
     ensures end { result ≡ at + length (code_text (side_of (read field.now))) }
 {
     let mut digits = [0u8; Code::LONGEST];
-    let Answer::Accepted(n) = Code::unpack(field, &mut digits) else {
+    let Ok(n) = Code::unpack(field, &mut digits) else {
         out[at] = b'-';
         return at + 1;
     };

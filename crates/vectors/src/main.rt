@@ -4,7 +4,6 @@
 
 ghost use Rattle.std.specs.Prelude.{◌+◌, ◌<◌, ◌≤◌, length};
 
-use answers::Answer;
 use codes::Code;
 use printer::{answered, text};
 use std::io;
@@ -48,7 +47,7 @@ fn labelled(rt: &impl Print, numbers: &[u32]) -> io::Result<()>
     requires few { length numbers.now ≤ 27 }
 {
     let mut register = [FILL; 944];
-    tables::label(numbers, &mut register);
+    let _ = tables::label(numbers, &mut register);
     let n = numbers.len() / 3;
     printer::lines(rt, &register, n)?;
     text(rt, b"past them:")?;
@@ -57,13 +56,13 @@ fn labelled(rt: &impl Print, numbers: &[u32]) -> io::Result<()>
 
 fn middle(left: [u8; 32], right: [u8; 32]) -> [u8; 32] {
     let mut field = [0u8; 32];
-    Code::between(&left, &right, &mut field);
+    let _ = Code::between(&left, &right, &mut field);
     field
 }
 
 fn field_of(digits: &[u8]) -> [u8; 32] {
     let mut field = [0u8; 32];
-    Code::pack(digits, &mut field);
+    let _ = Code::pack(digits, &mut field);
     field
 }
 
@@ -71,7 +70,7 @@ fn field_of(digits: &[u8]) -> [u8; 32] {
 fn code(rt: &impl Print, field: [u8; 32]) -> io::Result<()> {
     let mut digits = [0u8; 127];
     text(rt, b" ")?;
-    let Answer::Accepted(n) = Code::unpack(&field, &mut digits) else {
+    let Ok(n) = Code::unpack(&field, &mut digits) else {
         text(rt, b"none")?;
         return Ok(());
     };
@@ -367,11 +366,11 @@ fn table_in(rt: &impl Print, name: &[u8], numbers: &[u32], room: usize) -> io::R
     let mut register = [FILL; 425992];
     text(rt, name)?;
     match tables::label(numbers, &mut register[..room]) {
-        Answer::Accepted(n) => {
+        Ok(n) => {
             text(rt, b" bytes ")?;
             print!(rt; "{}", n as u64)?;
         }
-        Answer::Refused(refusal) => {
+        Err(refusal) => {
             text(rt, b" refused ")?;
             print!(rt; "{}", refusal.number() as u64)?;
             text(rt, b" row ")?;
@@ -410,7 +409,7 @@ fn damaged(rt: &impl Print, name: &[u8], room: usize, at: usize, byte: u8) -> io
     requires inside { (room ≤ 432) × (at < 432) }
 {
     let mut register = [FILL; 432];
-    tables::label(&WORKED, &mut register);
+    let _ = tables::label(&WORKED, &mut register);
     register[at] = byte;
     asked(rt, name, &register[..room])
 }

@@ -1,10 +1,10 @@
 -- `between_sides` meets its contract: the step on the two sides' digits, where there is room and the code fits. Assumes nothing.
+use Rattle.std.specs.Prelude.{Ok}
 use mathlib.Core.Path.{refl, ap, ◌∙◌}
 use mathlib.Core.List.{List}
 use Prim.Native.Nat.{ℕ}
 use native.Mathlib.Omega.{arith}
 use Rattle.digits.specs.Between.{between}
-use Rattle.answers.specs.declared.Answer.TheVariants.{Accepted}
 use Rattle.answers.proofs.OutcomeLaws.{gives}
 use Rattle.numbers.specs.Bytes.{put}
 use Rattle.codes.specs.Field.{field_of}
@@ -59,6 +59,6 @@ returns c =
     let h = made (goal.at.returns c).After-step-made in
     let t = gives _ _ _ _ _
     (between_written c.args.left.now c.args.right.now c.args.field.now c.requires.ordered c.if-field-lt-FIELD.false
-    (omega (arith, h.count))) (ap Accepted h.count)
+    (omega (arith, h.count))) (ap Ok h.count)
     (c.write_field.ensures.bytes ∙ ap (λ (x : List ℕ). put c.args.field.now 0 (field_of x)) h.digits) in
     record { answer = t.0; bytes = t.1 }

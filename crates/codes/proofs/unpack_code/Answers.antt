@@ -1,9 +1,9 @@
 -- `unpack_code` meets its contract: the field's digits, where there is room for them. Assumes nothing.
+use Rattle.std.specs.Prelude.{Ok}
 use mathlib.Core.Path.{refl, ap, ◌∙◌}
 use Prim.Native.Nat.{◌<◌, ◌≤◌}
 use native.Mathlib.Omega.{arith}
 use lib.ListN.{length}
-use Rattle.answers.specs.declared.Answer.TheVariants.{Accepted}
 use Rattle.answers.proofs.OutcomeLaws.{gives}
 use Rattle.numbers.specs.Bytes.{put}
 use Rattle.codes.specs.Reading.{read, side_of}
@@ -32,6 +32,6 @@ pub returns : goal.returns
 returns c =
     let h = digits (goal.at.returns c).After-of_field-code in
     let k : length (side_of (read c.args.field.now)) ≤ length c.args.digits.now = omega (arith, h.count) in
-    let t = gives _ _ _ _ _ (unpack_written c.args.field.now c.args.digits.now _ (held_code _ c.requires.held) k) (ap Accepted h.count)
+    let t = gives _ _ _ _ _ (unpack_written c.args.field.now c.args.digits.now _ (held_code _ c.requires.held) k) (ap Ok h.count)
     (c.copy.ensures.bytes ∙ ap (put c.args.digits.now 0) h.digits) in
     record { answer = t.0; bytes = t.1 }

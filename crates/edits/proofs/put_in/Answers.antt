@@ -1,9 +1,9 @@
 -- `put_in` meets its contract. Assumes nothing.
+use Rattle.std.specs.Prelude.{Ok}
 use mathlib.Core.Path.{sym, ap, ◌∙◌, subst}
 use native.Mathlib.Omega.{arith}
 use Rattle.digits.specs.Order.{Digits}
 use Rattle.digits.specs.Between.{start_of, end_of}
-use Rattle.answers.specs.declared.Answer.TheVariants.{Accepted}
 use Rattle.answers.proofs.OutcomeLaws.{gives}
 use Rattle.codes.specs.Code.{IsCode}
 use Rattle.codes.specs.Spread.{Held}
@@ -85,7 +85,7 @@ returns c =
     let t = gives _ _ _ _ _
     (put_done b m f (spot_of w i f) (omega (arith, s.count, c.len.ensures.len, c.if-len-gt-LONGEST.false))
     (omega (arith, e.count, c.len-2.ensures.len, c.if-len-gt-LONGEST-2.false)))
-    (ap Accepted k)
+    (ap Ok k)
     (c.write_in.ensures.bytes ∙ same_inserted b _ _ m _ _ _ _ _ _ k s.digits e.digits
     (c.code_at-parent.ensures.held.digits ∙ p.2)) in
     record { answer = t.0; bytes = t.1 }

@@ -17,10 +17,10 @@ refused c =
 
 -- the field holds the code that was unpacked
 unpacked : (c : After-digits_at-arg-1) →
-    Unpacked c.args.field.now c.in-Accepted.n c.unpack.new.digits
+    Unpacked c.args.field.now c.in-Ok.n c.unpack.new.digits
 unpacked c =
     let a = c.args in
-    accepted_side a.field.now _ (omega arith) _ c.unpack.ensures.answer _ _ c.unpack.ensures.bytes c.in-Accepted.is
+    accepted_side a.field.now _ (omega arith) _ c.unpack.ensures.answer _ _ c.unpack.ensures.bytes c.in-Ok.is
 
 pub returns-in_default : goal.returns-in_default
 returns-in_default c =
