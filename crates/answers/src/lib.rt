@@ -32,6 +32,7 @@ pub enum Refusal {
 
 impl Refusal {
     /// Its number for the host program.
+    #[inline(always)]
     pub fn number(self) -> u32
         ensures number { result ≡ number_of self }
         ensures small { result ≤ 13 }
@@ -54,6 +55,7 @@ impl Refusal {
     }
 
     /// The same as C gets it: -(100,000 + the number).
+    #[inline(always)]
     pub fn signed(self) -> i32
         ensures signed { result ≡ refused_as (number_of self) }
     {
@@ -61,6 +63,7 @@ impl Refusal {
     }
 
     /// The same with the row: -(100,000 + the number + 1,000,000 times the row).
+    #[inline(always)]
     pub fn signed_row(self) -> i64
         requires small { row_of self < 2 ^ 32 }
         ensures signed { result ≡ refused_as (with_row self) }
@@ -70,6 +73,7 @@ impl Refusal {
     }
 
     /// The row that is answered with it, from 0; 0 where none is.
+    #[inline(always)]
     pub fn row(self) -> usize
         ensures row { result ≡ row_of self }
     {
@@ -97,6 +101,7 @@ impl Signed for usize {
 
     ghost Fits = { λ n. n < 2 ^ 31 };
 
+    #[inline(always)]
     fn signed(self) -> i32 {
         self as i32
     }
@@ -108,6 +113,7 @@ impl Signed for i32 {
 
     ghost Fits = { λ _. Unit {0} };
 
+    #[inline(always)]
     fn signed(self) -> i32 {
         self
     }
@@ -119,6 +125,7 @@ impl Signed for bool {
 
     ghost Fits = { λ _. Unit {0} };
 
+    #[inline(always)]
     fn signed(self) -> i32 {
         i32::from(self)
     }
@@ -130,6 +137,7 @@ impl<T: Signed> Signed for Result<T, Refusal> {
 
     ghost Fits = { IsSignable T.Fits };
 
+    #[inline(always)]
     fn signed(self) -> i32 {
         match self {
             Ok(value) => value.signed(),
@@ -139,6 +147,7 @@ impl<T: Signed> Signed for Result<T, Refusal> {
 }
 
 /// The same for a call that answers rows, in 64 bits.
+#[inline(always)]
 pub fn signed_row(answer: Result<usize, Refusal>) -> i64
     requires small { SignableRow answer }
     ensures signed { result ≡ signed_row_of answer }
