@@ -5,6 +5,9 @@ ghost use Rattle.std.specs.Prelude.{◌≡◌, ◌^◌, ◌≤◌, ◌<◌, ℤ,
 ghost use Rattle.answers.specs.Number.{number_of, row_of};
 ghost use Rattle.answers.specs.Signed.{refused_as, yes_no, with_row, signed_as, IsSignable, signed_row_of, SignableRow};
 
+use std::error::Error;
+use std::fmt;
+
 // Above every refusal number of the host program.
 const REFUSED: i32 = -100000;
 
@@ -83,6 +86,15 @@ impl Refusal {
         }
     }
 }
+
+/// As the programs print it: `refused` and the number.
+impl fmt::Display for Refusal {
+    fn fmt<W: fmt::Write>(&self, f: &mut fmt::Formatter<W>) -> fmt::Result {
+        write!(f, "refused {}", self.number())
+    }
+}
+
+impl Error for Refusal {}
 
 /// What C gets as a signed number of 32 bits.
 pub trait Signed: Copy {

@@ -44,13 +44,8 @@ pub fn unreadable(rt: &impl Print) -> io::Result<()> {
 // Prints a call's answer: its number, or `refused` and the paper's number.
 pub fn answered(rt: &impl Print, answer: Result<usize, Refusal>) -> io::Result<()> {
     match answer {
-        Ok(n) => {
-            print!(rt; " {n}")?;
-        }
-        Err(refusal) => {
-            let number = refusal.number();
-            print!(rt; " refused {number}")?;
-        }
+        Ok(n) => print!(rt; " {n}")?,
+        Err(refusal) => print!(rt; " {refusal}")?,
     }
     text(rt, b";")
 }
