@@ -3,7 +3,7 @@ use mathlib.Core.Path.{◌≡◌, refl, sym, ap, ◌∙◌}
 use mathlib.Core.List.{List, [], ◌∷◌, ◌++◌, append_assoc, append-nil}
 use Prim.Native.Nat.{ℕ, zero, suc, ◌+◌, ◌-◌, ◌≤◌, ◌<◌}
 use native.Mathlib.Nat.{add-zero, zero-add, add_assoc}
-use native.Mathlib.Numerals.{add-one, add-two, add-three}
+use native.Mathlib.Numerals.{add-one}
 use native.Mathlib.Omega.{arith}
 use lib.ListN.{length, take, drop, get_or, set, replicate, length-replicate, length-append, length-take, length-drop, take-append-drop, drop_of_length-le, get_or-append, length-set}
 use lib.Seq.{set-append_left, length-take-le, take_all, take-nil, take-append-le, take_at, take-take, take-add, drop_at, drop-append-add, drop-drop, set_split, get_or-take, get_or-drop, sets, sets-eq}
@@ -128,24 +128,7 @@ pub put_stores : (xs : List ℕ) (at : ℕ) (vs : List ℕ) → at + length vs �
 unfolding put
 put_stores xs at vs fits = sets-eq vs xs at fits ∙ append_assoc (take at xs) vs (drop (at + length vs) xs)
 
--- four stores in a row are one run
-pub put_four : (xs : List ℕ) (at a b d e : ℕ) → at + 4 ≤ length xs
-    → set (set (set (set xs at a) (at + 1) b) (at + 2) d) (at + 3) e ≡ put xs at (a ∷ b ∷ d ∷ e ∷ [])
-put_four xs at a b d e fits = rw (add-one at, add-two at, add-three at) (put_stores xs at (a ∷ b ∷ d ∷ e ∷ []) fits)
-
--- a store in front of the run, and one behind it
-pub put_cons : (xs : List ℕ) (at : ℕ) (vs : List ℕ) (v : ℕ) → suc at + length vs ≤ length xs
-    → set (put xs (suc at) vs) at v ≡ put xs at (v ∷ vs)
-put_cons xs at vs v fits =
-    let l : at < length (put xs (suc at) vs) = rw (put_length xs (suc at) vs fits) (omega arith) in
-    let e : at + suc (length vs) ≡ suc at + length vs = omega arith in
-    rw (
-      set_split (put xs (suc at) vs) at v l,
-      take_put xs (suc at) vs (omega arith) at (omega arith),
-      put_rest xs (suc at) vs (omega arith),
-      ← e,
-    ) (sym (put_parts xs at (v ∷ vs) refl refl))
-
+-- a store behind the run
 pub put_snoc : (xs : List ℕ) (at : ℕ) (vs : List ℕ) (v : ℕ) → at + length vs < length xs
     → set (put xs at vs) (at + length vs) v ≡ put xs at (vs ++ (v ∷ []))
 put_snoc xs at vs v fits =
