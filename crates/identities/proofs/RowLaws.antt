@@ -7,8 +7,8 @@ use Prim.Native.Nat.{ℕ, zero, suc, ◌*◌, ◌-◌, ◌≤◌, ◌<◌}
 use native.Mathlib.Nat.{one-mul}
 use native.Mathlib.Omega.{arith}
 use lib.Dec.{eqb}
-use lib.ListN.{length, get_or, take, drop, drop_of_length-le}
-use lib.Seq.{drop-cons, get_or-take, length-take-le}
+use lib.ListN.{length, get_or, drop, drop_of_length-le}
+use lib.Seq.{drop-cons}
 use borrow.Author.Tests.{eqb-false, eq-eqb, ne_eqb, not-true}
 use Rattle.digits.specs.Lists.{All, Distinct}
 use Rattle.digits.proofs.ListLaws.{all_map, all_both}
@@ -107,26 +107,21 @@ all_new_gives xs h =
 pub gives_all_new : (xs : List ℕ) → All (λ x. x ≢ 0) xs → Distinct xs → is_all_new xs ≡ true
 gives_all_new xs h d = gives_fresh_from [] xs (some xs h) d
 
--- what the numbers from number i on of the first n of a list give
-abbrev pub new_from : List ℕ → ℕ → ℕ → Bool
-new_from xs n i = fresh_from (earlier 1 xs i) (drop i (take n xs))
+-- what the numbers of a list from number i on give
+abbrev pub new_from : List ℕ → ℕ → Bool
+new_from xs i = fresh_from (earlier 1 xs i) (drop i xs)
 
-module _ (xs : List ℕ) (n : ℕ) (l : n ≤ length xs) where
-  new_next : (i : ℕ) → i < n → new_from xs n i ≡ is_fresh (get_or xs (1 * i) 0) (earlier 1 xs i) && new_from xs n (suc i)
-  new_next i h =
-      let e : length (take n xs) ≡ n = length-take-le n xs l in
-      let v : get_or (take n xs) i 0 ≡ get_or xs (1 * i) 0 = get_or-take n xs i 0 h ∙ ap (λ (k : ℕ). get_or xs k 0) (sym (one-mul i)) in
-      ap (fresh_from (earlier 1 xs i))
-      (drop-cons (take n xs) i 0 (omega arith) ∙ ap (λ (x : ℕ). x ∷ drop (suc i) (take n xs)) v)
+module _ (xs : List ℕ) where
+  new_next : (i : ℕ) → i < length xs → new_from xs i ≡ is_fresh (get_or xs (1 * i) 0) (earlier 1 xs i) && new_from xs (suc i)
+  new_next i h = ap (fresh_from (earlier 1 xs i)) (drop-cons xs i 0 h ∙ ap (λ (k : ℕ). get_or xs k 0 ∷ drop (suc i) xs) (sym (one-mul i)))
 
   -- number i is used, or new; behind the last all were new
-  pub next_used : (i : ℕ) → i < n → is_fresh (get_or xs (1 * i) 0) (earlier 1 xs i) ≡ false → new_from xs n i ≡ false
+  pub next_used : (i : ℕ) → i < length xs → is_fresh (get_or xs (1 * i) 0) (earlier 1 xs i) ≡ false → new_from xs i ≡ false
   next_used i h f = new_next i h ∙ rw f refl
 
-  pub next_new : (i : ℕ) → i < n → is_fresh (get_or xs (1 * i) 0) (earlier 1 xs i) ≡ true → new_from xs n i ≡ new_from xs n (suc i)
+  pub next_new : (i : ℕ) → i < length xs → is_fresh (get_or xs (1 * i) 0) (earlier 1 xs i) ≡ true
+      → new_from xs i ≡ new_from xs (suc i)
   next_new i h f = new_next i h ∙ rw f refl
 
-  pub new_end : new_from xs n n ≡ true
-  new_end =
-      let e : length (take n xs) ≡ n = length-take-le n xs l in
-      ap (fresh_from (earlier 1 xs n)) (drop_of_length-le (take n xs) {i = n} (omega arith))
+  pub new_end : (i : ℕ) → length xs ≤ i → new_from xs i ≡ true
+  new_end i h = ap (fresh_from (earlier 1 xs i)) (drop_of_length-le xs {i = i} h)
