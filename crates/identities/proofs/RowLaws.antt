@@ -1,15 +1,16 @@
 -- Laws of new identities: one row's, and all of a list's: what is new is not 0 and stands nowhere twice. Assumes nothing.
 use mathlib.Core.Path.{◌≡◌, refl, sym, ap, ◌∙◌}
 use mathlib.Core.Logic.{◌≢◌}
-use mathlib.Core.Bool.{Bool, true, false, cond, not, ◌&&◌, and-false, and-eq-true_iff, false≢true}
+use mathlib.Core.Bool.{Bool, true, false, cond, not, ◌&&◌, ◌||◌, or-true, or-false, or_assoc, and-false, and-eq-true_iff, false≢true}
 use mathlib.Core.List.{List, [], ◌∷◌}
-use Prim.Native.Nat.{ℕ, zero, suc, ◌*◌, ◌-◌, ◌≤◌, ◌<◌}
-use native.Mathlib.Nat.{one-mul}
+use Prim.Native.Nat.{ℕ, zero, suc, ◌+◌, ◌*◌, ◌≤◌, ◌<◌}
+use native.Mathlib.Nat.{one-mul, add-zero}
 use native.Mathlib.Omega.{arith}
 use lib.Dec.{eqb}
 use lib.ListN.{length, get_or, drop, drop_of_length-le}
 use lib.Seq.{drop-cons}
 use borrow.Author.Tests.{eqb-false, eq-eqb, ne_eqb, not-true}
+use Rattle.std.specs.List.{list_any, range_with_len}
 use Rattle.digits.specs.Lists.{All, Distinct}
 use Rattle.digits.proofs.ListLaws.{all_map, all_both}
 use Rattle.identities.specs.Identities.{is_among}
@@ -25,19 +26,24 @@ fresh_used x used h = simp (h, and-false)
 pub fresh_some : (x : ℕ) (used : List ℕ) → (x ≡ 0 → ⊥) → is_fresh x used ≡ not (is_among x used)
 fresh_some x used some = simp (ne_eqb x 0 some)
 
--- the identity of the row above is the first looked at
-pub above_found : (stride : ℕ) (t : List ℕ) (x k : ℕ) → 0 < k → x ≡ get_or t (stride * (k - 1)) 0 → is_among x (earlier stride t k) ≡ true
-above_found stride t x zero h e = absurd (omega arith)
-above_found stride t x (suc k) h e =
-    let p : suc k - 1 ≡ k = omega arith in
-    simp (eq-eqb x (get_or t (stride * k) 0) (e ∙ ap (λ (j : ℕ). get_or t (stride * j) 0) p))
+-- what one number more adds to the search through a range
+any_last : (p : ℕ → Bool) (a n j : ℕ) → a + n ≡ j → list_any p (range_with_len a (suc n)) ≡ list_any p (range_with_len a n) || p j
+any_last p a zero j e = or-false (p a) ∙ ap p (sym (add-zero a) ∙ e)
+any_last p a (suc n) j e =
+    ap (λ b. p a || b) (any_last p (a + 1) n j (omega arith)) ∙ sym (or_assoc (p a) (list_any p (range_with_len (a + 1) n)) (p j))
 
-pub above_passed : (stride : ℕ) (t : List ℕ) (x k : ℕ) → 0 < k → (x ≡ get_or t (stride * (k - 1)) 0 → ⊥)
-    → is_among x (earlier stride t k) ≡ is_among x (earlier stride t (k - 1))
-above_passed stride t x zero h e = absurd (omega arith)
-above_passed stride t x (suc k) h e =
-    let p : suc k - 1 ≡ k = omega arith in
-    rw p (simp (ne_eqb x (get_or t (stride * k) 0) (λ q. e (q ∙ ap (λ (j : ℕ). get_or t (stride * j) 0) (sym p)))))
+-- the search through the rows above row i
+pub any_above : (stride : ℕ) (t : List ℕ) (x i : ℕ)
+    → list_any (λ k. eqb x (get_or t (stride * k) 0)) (range_with_len 0 i) ≡ is_among x (earlier stride t i)
+any_above stride t x zero = refl
+any_above stride t x (suc i) = any_last here 0 i i (omega arith) ∙ ap (λ b. b || here i) (any_above stride t x i) ∙ either (here i) (is_among x (earlier stride t i))
+  where
+    here : ℕ → Bool
+    here k = eqb x (get_or t (stride * k) 0)
+
+    either : (a b : Bool) → (b || a) ≡ cond a true b
+    either true b = or-true b
+    either false b = or-false b
 
 -- an identity that is not 0 and not among some others
 abbrev pub New : List ℕ → ℕ → Type 0

@@ -43,13 +43,11 @@ impl Used {
         ensures held { result ≡ true → Holds self.new (earlier stride numbers.now (suc i)) }
     {
         let identity = numbers[stride * i];
-        if identity == 0 {
-            return false;
-        }
-        match self.enter(identity) {
-            Some(new) => new,
-            None => !stands_above(numbers, stride, i, identity),
-        }
+        identity != 0
+            && match self.enter(identity) {
+                Some(new) => new,
+                None => !stands_above(numbers, stride, i, identity),
+            }
     }
 
     /// Enters an identity that is not 0: whether it is new, or `None` where no place is free.
@@ -87,12 +85,7 @@ fn stands_above(numbers: &[u32], stride: usize, i: usize, identity: u32) -> bool
     requires inside { stride * i < length numbers.now }
     ensures among { result ≡ is_among identity (earlier stride numbers.now i) }
 {
-    for k in (0..i).rev() {
-        if identity == numbers[stride * k] {
-            return true;
-        }
-    }
-    false
+    (0..i).any(|k| identity == numbers[stride * k])
 }
 
 /// The numbers are not 0 and all different.
