@@ -1,15 +1,16 @@
 -- Laws of new identities: one row's, and all of a list's: what is new is not 0 and stands nowhere twice. Assumes nothing.
 use mathlib.Core.Path.{◌≡◌, refl, sym, ap, ◌∙◌}
 use mathlib.Core.Logic.{◌≢◌}
-use mathlib.Core.Bool.{Bool, true, false, cond, not, ◌&&◌, and-false, and-eq-true_iff, false≢true}
+use mathlib.Core.Bool.{Bool, true, false, cond, not, ◌&&◌, ◌||◌, or-true, or-false, or_assoc, and-false, and-eq-true_iff, false≢true}
 use mathlib.Core.List.{List, [], ◌∷◌}
-use Prim.Native.Nat.{ℕ, zero, suc, ◌*◌, ◌-◌, ◌≤◌, ◌<◌}
-use native.Mathlib.Nat.{one-mul}
+use Prim.Native.Nat.{ℕ, zero, suc, ◌+◌, ◌*◌, ◌≤◌, ◌<◌}
+use native.Mathlib.Nat.{one-mul, add-zero}
 use native.Mathlib.Omega.{arith}
 use lib.Dec.{eqb}
-use lib.ListN.{length, get_or, take, drop, drop_of_length-le}
-use lib.Seq.{drop-cons, get_or-take, length-take-le}
+use lib.ListN.{length, get_or, drop, drop_of_length-le}
+use lib.Seq.{drop-cons}
 use borrow.Author.Tests.{eqb-false, eq-eqb, ne_eqb, not-true}
+use Rattle.std.specs.List.{list_any, range_with_len}
 use Rattle.digits.specs.Lists.{All, Distinct}
 use Rattle.digits.proofs.ListLaws.{all_map, all_both}
 use Rattle.identities.specs.Identities.{is_among}
@@ -25,19 +26,24 @@ fresh_used x used h = simp (h, and-false)
 pub fresh_some : (x : ℕ) (used : List ℕ) → (x ≡ 0 → ⊥) → is_fresh x used ≡ not (is_among x used)
 fresh_some x used some = simp (ne_eqb x 0 some)
 
--- the identity of the row above is the first looked at
-pub above_found : (stride : ℕ) (t : List ℕ) (x k : ℕ) → 0 < k → x ≡ get_or t (stride * (k - 1)) 0 → is_among x (earlier stride t k) ≡ true
-above_found stride t x zero h e = absurd (omega arith)
-above_found stride t x (suc k) h e =
-    let p : suc k - 1 ≡ k = omega arith in
-    simp (eq-eqb x (get_or t (stride * k) 0) (e ∙ ap (λ (j : ℕ). get_or t (stride * j) 0) p))
+-- what one number more adds to the search through a range
+any_last : (p : ℕ → Bool) (a n j : ℕ) → a + n ≡ j → list_any p (range_with_len a (suc n)) ≡ list_any p (range_with_len a n) || p j
+any_last p a zero j e = or-false (p a) ∙ ap p (sym (add-zero a) ∙ e)
+any_last p a (suc n) j e =
+    ap (λ b. p a || b) (any_last p (a + 1) n j (omega arith)) ∙ sym (or_assoc (p a) (list_any p (range_with_len (a + 1) n)) (p j))
 
-pub above_passed : (stride : ℕ) (t : List ℕ) (x k : ℕ) → 0 < k → (x ≡ get_or t (stride * (k - 1)) 0 → ⊥)
-    → is_among x (earlier stride t k) ≡ is_among x (earlier stride t (k - 1))
-above_passed stride t x zero h e = absurd (omega arith)
-above_passed stride t x (suc k) h e =
-    let p : suc k - 1 ≡ k = omega arith in
-    rw p (simp (ne_eqb x (get_or t (stride * k) 0) (λ q. e (q ∙ ap (λ (j : ℕ). get_or t (stride * j) 0) (sym p)))))
+-- the search through the rows above row i
+pub any_above : (stride : ℕ) (t : List ℕ) (x i : ℕ)
+    → list_any (λ k. eqb x (get_or t (stride * k) 0)) (range_with_len 0 i) ≡ is_among x (earlier stride t i)
+any_above stride t x zero = refl
+any_above stride t x (suc i) = any_last here 0 i i (omega arith) ∙ ap (λ b. b || here i) (any_above stride t x i) ∙ either (here i) (is_among x (earlier stride t i))
+  where
+    here : ℕ → Bool
+    here k = eqb x (get_or t (stride * k) 0)
+
+    either : (a b : Bool) → (b || a) ≡ cond a true b
+    either true b = or-true b
+    either false b = or-false b
 
 -- an identity that is not 0 and not among some others
 abbrev pub New : List ℕ → ℕ → Type 0
@@ -107,26 +113,21 @@ all_new_gives xs h =
 pub gives_all_new : (xs : List ℕ) → All (λ x. x ≢ 0) xs → Distinct xs → is_all_new xs ≡ true
 gives_all_new xs h d = gives_fresh_from [] xs (some xs h) d
 
--- what the numbers from number i on of the first n of a list give
-abbrev pub new_from : List ℕ → ℕ → ℕ → Bool
-new_from xs n i = fresh_from (earlier 1 xs i) (drop i (take n xs))
+-- what the numbers of a list from number i on give
+abbrev pub new_from : List ℕ → ℕ → Bool
+new_from xs i = fresh_from (earlier 1 xs i) (drop i xs)
 
-module _ (xs : List ℕ) (n : ℕ) (l : n ≤ length xs) where
-  new_next : (i : ℕ) → i < n → new_from xs n i ≡ is_fresh (get_or xs (1 * i) 0) (earlier 1 xs i) && new_from xs n (suc i)
-  new_next i h =
-      let e : length (take n xs) ≡ n = length-take-le n xs l in
-      let v : get_or (take n xs) i 0 ≡ get_or xs (1 * i) 0 = get_or-take n xs i 0 h ∙ ap (λ (k : ℕ). get_or xs k 0) (sym (one-mul i)) in
-      ap (fresh_from (earlier 1 xs i))
-      (drop-cons (take n xs) i 0 (omega arith) ∙ ap (λ (x : ℕ). x ∷ drop (suc i) (take n xs)) v)
+module _ (xs : List ℕ) where
+  new_next : (i : ℕ) → i < length xs → new_from xs i ≡ is_fresh (get_or xs (1 * i) 0) (earlier 1 xs i) && new_from xs (suc i)
+  new_next i h = ap (fresh_from (earlier 1 xs i)) (drop-cons xs i 0 h ∙ ap (λ (k : ℕ). get_or xs k 0 ∷ drop (suc i) xs) (sym (one-mul i)))
 
   -- number i is used, or new; behind the last all were new
-  pub next_used : (i : ℕ) → i < n → is_fresh (get_or xs (1 * i) 0) (earlier 1 xs i) ≡ false → new_from xs n i ≡ false
+  pub next_used : (i : ℕ) → i < length xs → is_fresh (get_or xs (1 * i) 0) (earlier 1 xs i) ≡ false → new_from xs i ≡ false
   next_used i h f = new_next i h ∙ rw f refl
 
-  pub next_new : (i : ℕ) → i < n → is_fresh (get_or xs (1 * i) 0) (earlier 1 xs i) ≡ true → new_from xs n i ≡ new_from xs n (suc i)
+  pub next_new : (i : ℕ) → i < length xs → is_fresh (get_or xs (1 * i) 0) (earlier 1 xs i) ≡ true
+      → new_from xs i ≡ new_from xs (suc i)
   next_new i h f = new_next i h ∙ rw f refl
 
-  pub new_end : new_from xs n n ≡ true
-  new_end =
-      let e : length (take n xs) ≡ n = length-take-le n xs l in
-      ap (fresh_from (earlier 1 xs n)) (drop_of_length-le (take n xs) {i = n} (omega arith))
+  pub new_end : (i : ℕ) → length xs ≤ i → new_from xs i ≡ true
+  new_end i h = ap (fresh_from (earlier 1 xs i)) (drop_of_length-le xs {i = i} h)

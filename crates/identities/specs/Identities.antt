@@ -1,12 +1,8 @@
 -- A table of 8,192 places for identities, 0 at a free one: what it holds, and what entering an identity makes of it.
 -- Assumes nothing.
-use Rattle.std.specs.Prelude.{◌≡◌, Bool, true, false, cond, List, [], ◌∷◌, ◌⊎◌, ℕ, ◌+◌, ◌*◌, ◌<◌, ◌/◌, ◌%◌, eqb, length, get_or}
-use Rattle.identities.specs.declared.Slot.{Slot}
-use Rattle.identities.specs.declared.Slot.TheVariants.{Free, Taken, Full}
-use Rattle.identities.specs.declared.Entered.{Entered}
-use Rattle.identities.specs.declared.Entered.TheVariants.{New, Known, NoPlace}
+use Rattle.std.specs.Prelude.{◌≡◌, Bool, true, false, cond, not, Option, Some, None, List, [], ◌∷◌, ◌⊎◌, ℕ, ◌+◌, ◌*◌, ◌<◌, ◌/◌, ◌%◌, eqb, length, get_or}
 
--- 01, refusal 3: a number is among those used
+-- a number is among those used
 abbrev pub is_among : ℕ → List ℕ → Bool
 is_among x [] = false
 is_among x (y ∷ ys) = cond (eqb x y) true (is_among x ys)
@@ -50,24 +46,17 @@ pub record TakenAt (t : List ℕ) (x : ℕ) : Type 0 where
 abbrev pub Crowded : List ℕ → Type 0
 Crowded t = (i : ℕ) → i < place_count → get_or t i 0 ≡ 0 → ⊥
 
--- what the search for x answers
-abbrev pub SlotIs : List ℕ → ℕ → Slot → Type 0
-SlotIs t x (Free i) = FreeAt t x i
-SlotIs t x Taken = TakenAt t x
-SlotIs t x Full = Crowded t
-
 -- only used identities stand in t, and all of them while a place is free
 pub record Holds (t used : List ℕ) : Type 0 where
   pub size : length t ≡ place_count
   pub known : (i : ℕ) → i < place_count → (get_or t i 0 ≡ 0) ⊎ (is_among (get_or t i 0) used ≡ true)
   pub found : ((x : ℕ) → (x ≡ 0 → ⊥) → is_among x used ≡ true → In t x) ⊎ Crowded t
 
--- x was entered behind the identities used, was used, or found no place
-abbrev pub EnteredAs : ℕ → List ℕ → Entered → List ℕ → Type 0
-EnteredAs x used New t = (is_among x used ≡ false) × Holds t (x ∷ used)
-EnteredAs x used Known t = is_among x used ≡ true
-EnteredAs x used NoPlace t = Holds t (x ∷ used)
+-- x is entered behind the identities used: whether it was new, or that it found no place
+abbrev pub EnteredAs : ℕ → List ℕ → Option Bool → List ℕ → Type 0
+EnteredAs x used (Some new) t = (new ≡ not (is_among x used)) × (new ≡ true → Holds t (x ∷ used))
+EnteredAs x used None t = Holds t (x ∷ used)
 
 -- so for whatever identities the table held
-abbrev pub Entering : List ℕ → ℕ → Entered → List ℕ → Type 0
+abbrev pub Entering : List ℕ → ℕ → Option Bool → List ℕ → Type 0
 Entering t x r t' = (used : List ℕ) → Holds t used → EnteredAs x used r t'

@@ -1,18 +1,16 @@
--- `stands_above` meets its contract. The loop's invariant: what is above row i and not above row k is not the identity.
--- Assumes nothing.
-use mathlib.Core.Path.{◌∙◌}
-use Prim.Native.Nat.{◌*◌, ◌-◌, ◌≤◌}
-use native.Mathlib.Nat.{mul-le-mul_left}
-use native.Mathlib.Omega.{arith}
-use Rattle.identities.proofs.RowLaws.{above_passed}
+-- The search through the rows above finds what stands among their identities.
+use Rattle.std.proofs.Common.{◌∙◌, ◌*◌, refl, arith, rules, tests, get_or}
+use lib.Dec.{eqb}
+use Rattle.std.proofs.lemmas.Iterator.{YieldsList-from_range}
+use Rattle.std.proofs.lemmas.Iterator.Search.{any_from_yields_List}
+use Rattle.identities.proofs.RowLaws.{any_above}
 use Rattle.identities.proofs.stands_above.Goals as goal
-use Rattle.identities.proofs.stands_above.Goals.{In-loop-k}
 
--- a row above stands no later
-no_later : (c : In-loop-k) → c.args.stride * (c.loop-k.k - 1)
-    ≤ c.args.stride * c.args.i
-no_later c = mul-le-mul_left c.args.stride (omega arith)
-
-pub loop-k-preserved : goal.loop-k-preserved
-loop-k-preserved c = let a = c.args in
-    (omega arith, c.loop-k.invariant.1 ∙ above_passed a.stride a.numbers.now a.identity _ (omega arith) c.if-identity-numbers.false)
+pub returns : goal.returns
+returns c =
+    let a = c.args in
+    record {
+      among = any_from_yields_List (λ k. eqb a.identity (get_or a.numbers.now (a.stride * k) 0)) _ _ _ c.any.ensures.ran
+          (YieldsList-from_range 0 a.i a.i refl (omega arith)) (λ k b q h. search (rules, tests))
+          ∙ any_above a.stride a.numbers.now a.identity a.i;
+    }
