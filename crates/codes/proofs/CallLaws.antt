@@ -1,6 +1,7 @@
 -- Laws of the three calls: what each outcome is in each case, and what is known of two sides that are in order.
 -- Assumes nothing.
 use mathlib.Core.Path.{◌≡◌, refl, sym, ap, ◌∙◌}
+use mathlib.Core.Logic.{◌⊎◌, inl, inr}
 use mathlib.Core.Bool.{Bool, true, false, cond, false≢true}
 use mathlib.Core.List.{List, [], ◌∷◌}
 use Prim.Native.Nat.{ℕ, ◌≤◌, ◌<◌}
@@ -14,22 +15,20 @@ use Rattle.digits.specs.Between.{Gap, between}
 use Rattle.digits.proofs.OrderLaws.{is_below_gives}
 use Rattle.digits.proofs.CodeLaws.{formed_side, below_under}
 use Rattle.digits.proofs.BetweenLaws.{between_inside}
+use Rattle.std.specs.Prelude.{⊤, Result, Ok, Err, is_ok}
+use Rattle.answers.specs.declared.Refusal.{Refusal}
 use Rattle.answers.specs.declared.Refusal.TheVariants.{Room, CodeLength, NoCode, Order}
 use Rattle.answers.specs.Outcome.{accepted, refused, Unaltered}
 use Rattle.answers.proofs.OutcomeLaws.{keeps_unless, keeps_accepted}
 use Rattle.numbers.specs.Bytes.{put}
-use Rattle.codes.specs.declared.Sides.{Sides}
-use Rattle.codes.specs.declared.Sides.TheVariants.{Ordered, NoSide, Disordered}
-use Rattle.codes.specs.declared.field.Kind.{Kind}
-use Rattle.codes.specs.declared.field.Kind.TheVariants.{Full, Empty, Unsound}
 use Rattle.codes.specs.Code.{field_size, longest, is_code}
 use Rattle.codes.specs.Field.{field_of, spread, lead, Slots}
-use Rattle.codes.specs.Reading.{Reading, code, empty, unsound, read, kind_of, is_code_held, side_of}
+use Rattle.codes.specs.Reading.{Reading, code, empty, unsound, read, is_code_held, is_empty_held, side_of}
 use Rattle.codes.specs.declared.spread.Code.{Code}
 use Rattle.codes.specs.Spread.{digits_of, Held}
 use Rattle.codes.specs.Calls.{written, pack_outcome, unpack_as, unpack_outcome, sides_of, between_as, between_outcome}
 use Rattle.codes.proofs.FieldLaws.{field_length, lead_field, formed_quaternary, is_below_field}
-use Rattle.codes.proofs.ReadingLaws.{read_code, read_empty, full_kind, held_code}
+use Rattle.codes.proofs.ReadingLaws.{read_code, read_empty, held_code}
 use Rattle.codes.proofs.SpreadLaws.{held_is}
 
 module _ (x : Digits) (lent : List ℕ) where
@@ -86,8 +85,8 @@ known_count field x c k h = omega (arith, h.count, ap length k.digits, k.fits)
 pub held_known : (field : List ℕ) → is_code_held (read field) ≡ true → Known field (side_of (read field))
 held_known field h = known_code field _ (held_code (read field) h)
 
-pub full_size : (field : List ℕ) → kind_of (read field) ≡ Full → length field ≡ field_size
-full_size field h = (held_known field (full_kind (read field) h)).size
+pub full_size : (field : List ℕ) → is_code_held (read field) ≡ true → length field ≡ field_size
+full_size field h = (held_known field h).size
 
 module _ (field lent : List ℕ) where
   pub unpack_none : is_code_held (read field) ≡ false → unpack_outcome field lent ≡ refused NoCode lent
@@ -108,16 +107,6 @@ module _ (field lent : List ℕ) where
   unfolding unpack_outcome
   unpack_written x e h = rw (e, le-leb (length x) (length lent) h)
 
--- how two sides stand by their kinds, and by their bytes where both are full
-abbrev sides_as : Kind → Kind → Bool → Sides
-sides_as Unsound right below = NoSide
-sides_as Empty Unsound below = NoSide
-sides_as Empty Empty below = Ordered
-sides_as Empty Full below = Ordered
-sides_as Full Unsound below = NoSide
-sides_as Full Empty below = Ordered
-sides_as Full Full below = cond below Ordered Disordered
-
 -- the order of two full fields is that of their codes
 pub full_below : (left right : List ℕ) (x y : Digits) → read left ≡ code x → read right ≡ code y → is_below left right ≡ is_below x y
 full_below left right x y p q =
@@ -130,25 +119,58 @@ pub held_below : (left right : List ℕ) → is_code_held (read left) ≡ true �
     → is_below left right ≡ is_below (side_of (read left)) (side_of (read right))
 held_below left right h k = full_below left right _ _ (held_code (read left) h) (held_code (read right) k)
 
-sides_read : (left right : List ℕ)
-    → sides_of (read left) (read right) ≡ sides_as (kind_of (read left)) (kind_of (read right)) (is_below left right)
-sides_read left right = go (read left) (read right) refl refl
-  where
-    go : (p q : Reading) → read left ≡ p → read right ≡ q → sides_of p q ≡ sides_as (kind_of p) (kind_of q) (is_below left right)
-    go (code x) (code y) e f = ap (λ (b : Bool). cond b Ordered Disordered) (sym (full_below left right x y e f))
-    go (code x) empty e f = refl
-    go (code x) unsound e f = refl
-    go empty (code y) e f = refl
-    go empty empty e f = refl
-    go empty unsound e f = refl
-    go unsound (code y) e f = refl
-    go unsound empty e f = refl
-    go unsound unsound e f = refl
+-- how two sides stand to each other, by the tests of each and by their bytes where both hold codes
+module _ (left right : List ℕ) where
+  no_left : (r s : Reading) → is_code_held r ≡ false → is_empty_held r ≡ false → sides_of r s ≡ Err NoCode
+  no_left (code x) s h k = absurd (false≢true (sym h))
+  no_left empty s h k = absurd (false≢true (sym k))
+  no_left unsound s h k = refl
 
-pub sides_kinds : (left right : List ℕ) (k m : Kind) (b : Bool) → kind_of (read left) ≡ k → kind_of (read right) ≡ m
-    → is_below left right ≡ b
-    → sides_as k m b ≡ sides_of (read left) (read right)
-sides_kinds left right k m b e f g = sym (sides_read left right ∙ cc (e, f, g))
+  no_right : (r s : Reading) → (is_code_held r ≡ true) ⊎ (is_empty_held r ≡ true) → is_code_held s ≡ false → is_empty_held s ≡ false
+      → sides_of r s ≡ Err NoCode
+  no_right r (code y) o h k = absurd (false≢true (sym h))
+  no_right r empty o h k = absurd (false≢true (sym k))
+  no_right (code x) unsound o h k = refl
+  no_right empty unsound o h k = refl
+  no_right unsound unsound (inl o) h k = absurd (false≢true o)
+  no_right unsound unsound (inr o) h k = absurd (false≢true o)
+
+  pub left_refused : is_code_held (read left) ≡ false → is_empty_held (read left) ≡ false → sides_of (read left) (read right) ≡ Err NoCode
+  left_refused h k = no_left (read left) (read right) h k
+
+  pub right_refused : (is_code_held (read left) ≡ true) ⊎ (is_empty_held (read left) ≡ true) → is_code_held (read right) ≡ false
+      → is_empty_held (read right) ≡ false → sides_of (read left) (read right) ≡ Err NoCode
+  right_refused o h k = no_right (read left) (read right) o h k
+
+  pub codes_sides : (b : Bool) → is_code_held (read left) ≡ true → is_code_held (read right) ≡ true → is_below left right ≡ b
+      → sides_of (read left) (read right) ≡ cond b (Ok tt) (Err Order)
+  codes_sides b h k e =
+      rw (held_code (read left) h, held_code (read right) k)
+      (ap (λ (t : Bool). cond t (Ok tt) (Err Order)) (sym (held_below left right h k) ∙ e))
+
+  open_left : (r s : Reading) → is_empty_held r ≡ true → (is_code_held s ≡ true) ⊎ (is_empty_held s ≡ true) → sides_of r s ≡ Ok tt
+  open_left (code x) s h o = absurd (false≢true h)
+  open_left unsound s h o = absurd (false≢true h)
+  open_left empty (code y) h o = refl
+  open_left empty empty h o = refl
+  open_left empty unsound h (inl k) = absurd (false≢true k)
+  open_left empty unsound h (inr k) = absurd (false≢true k)
+
+  open_right : (r s : Reading) → is_empty_held s ≡ true → (is_code_held r ≡ true) ⊎ (is_empty_held r ≡ true) → sides_of r s ≡ Ok tt
+  open_right r (code y) h o = absurd (false≢true h)
+  open_right r unsound h o = absurd (false≢true h)
+  open_right (code x) empty h o = refl
+  open_right empty empty h o = refl
+  open_right unsound empty h (inl k) = absurd (false≢true k)
+  open_right unsound empty h (inr k) = absurd (false≢true k)
+
+  pub left_open : is_empty_held (read left) ≡ true → (is_code_held (read right) ≡ true) ⊎ (is_empty_held (read right) ≡ true)
+      → sides_of (read left) (read right) ≡ Ok tt
+  left_open h o = open_left (read left) (read right) h o
+
+  pub right_open : is_empty_held (read right) ≡ true → (is_code_held (read left) ≡ true) ⊎ (is_empty_held (read left) ≡ true)
+      → sides_of (read left) (read right) ≡ Ok tt
+  right_open h o = open_right (read left) (read right) h o
 
 -- what is known of two sides that are in order
 pub record InOrder (left right : List ℕ) (x y : Digits) : Type 0 where
@@ -164,42 +186,39 @@ open_below : (y : Digits) → Under [] y
 open_below [] = tt
 open_below (d ∷ y) = tt
 
-not_ordered : {s : Sides} → s ≡ Ordered → s ≡ NoSide → ⊥
-not_ordered e f = let z : ◌≡◌ {A = ℕ} 0 1 = cc in omega arith
+-- a refusal accepts nothing
+not_ordered : {r : Refusal} → ◌≡◌ {A = Result ⊤ Refusal} (Err r) (Ok tt) → ⊥
+not_ordered e = false≢true (ap is_ok e)
 
-ordered_below : (x y : Digits) → cond (is_below x y) Ordered Disordered ≡ Ordered → Under x y
+ordered_below : (x y : Digits) → ◌≡◌ {A = Result ⊤ Refusal} (cond (is_below x y) (Ok tt) (Err Order)) (Ok tt) → Under x y
 ordered_below x y h = below_under x y (is_below_gives x y (go (is_below x y) h))
   where
-    go : (b : Bool) → cond b Ordered Disordered ≡ Ordered → T b
+    go : (b : Bool) → ◌≡◌ {A = Result ⊤ Refusal} (cond b (Ok tt) (Err Order)) (Ok tt) → T b
     go true h = tt
-    go false h = let z : ◌≡◌ {A = ℕ} 0 1 = cc in omega arith
+    go false h = absurd (not_ordered h)
 
-pub in_order : (left right : List ℕ) → sides_of (read left) (read right) ≡ Ordered
+pub in_order : (left right : List ℕ) → sides_of (read left) (read right) ≡ Ok tt
     → InOrder left right (side_of (read left)) (side_of (read right))
 in_order left right h = go (read left) (read right) refl refl h
   where
-    go : (p q : Reading) → read left ≡ p → read right ≡ q → sides_of p q ≡ Ordered → InOrder left right (side_of p) (side_of q)
+    go : (p q : Reading) → read left ≡ p → read right ≡ q → sides_of p q ≡ Ok tt → InOrder left right (side_of p) (side_of q)
     go (code x) (code y) e f h = ordered_as left right x y (known_code left x e) (known_code right y f) (ordered_below x y h)
     go (code x) empty e f h = ordered_as left right x [] (known_code left x e) (known_empty right f) tt
-    go (code x) unsound e f h = absurd (not_ordered h refl)
+    go (code x) unsound e f h = absurd (not_ordered h)
     go empty (code y) e f h = ordered_as left right [] y (known_empty left e) (known_code right y f) (open_below y)
     go empty empty e f h = ordered_as left right [] [] (known_empty left e) (known_empty right f) tt
-    go empty unsound e f h = absurd (not_ordered h refl)
-    go unsound q e f h = absurd (not_ordered h refl)
+    go empty unsound e f h = absurd (not_ordered h)
+    go unsound q e f h = absurd (not_ordered h)
 
 module _ (left right lent : List ℕ) where
   abbrev between_code : Digits
   between_code = between (side_of (read left)) (side_of (read right))
 
-  pub between_no_side : sides_of (read left) (read right) ≡ NoSide → between_outcome left right lent ≡ refused NoCode lent
+  pub between_refused : (r : Refusal) → Err r ≡ sides_of (read left) (read right) → between_outcome left right lent ≡ refused r lent
   unfolding between_outcome
-  between_no_side e = rw e
+  between_refused r e = rw (← e)
 
-  pub between_disordered : sides_of (read left) (read right) ≡ Disordered → between_outcome left right lent ≡ refused Order lent
-  unfolding between_outcome
-  between_disordered e = rw e
-
-  module _ (e : sides_of (read left) (read right) ≡ Ordered) where
+  module _ (e : sides_of (read left) (read right) ≡ Ok tt) where
     pub between_short : length lent < field_size → between_outcome left right lent ≡ refused Room lent
     unfolding between_outcome
     between_short h = rw (e, lt-leb field_size (length lent) h)
@@ -238,9 +257,8 @@ pub between_keeps : (left right lent : List ℕ) → Unaltered lent (between_out
 unfolding between_outcome
 between_keeps left right lent = go (sides_of (read left) (read right)) (between (side_of (read left)) (side_of (read right)))
   where
-    go : (s : Sides) (x : Digits) → Unaltered lent (between_as s x lent)
-    go NoSide x = λ r e. refl
-    go Disordered x = λ r e. refl
-    go Ordered x =
+    go : (s : Result ⊤ Refusal) (x : Digits) → Unaltered lent (between_as s x lent)
+    go (Err refusal) x = λ r e. refl
+    go (Ok ordered) x =
         keeps_unless (leb field_size (length lent)) Room lent _
         (keeps_unless (leb (length x) longest) CodeLength lent _ (keeps_accepted lent _ _))

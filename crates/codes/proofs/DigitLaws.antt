@@ -5,7 +5,7 @@ use mathlib.Core.Bool.{Bool, true, false, not, cond, ◌&&◌, and_assoc, and-fa
 use Prim.Native.Nat.{ℕ, zero, suc, ◌+◌, ◌*◌, ◌-◌, ◌/◌, ◌%◌, ◌≤◌, ◌<◌, ◌^◌, max}
 use native.Mathlib.Nat.{pow-succ', mul_left_comm}
 use native.Mathlib.Omega.{arith}
-use lib.Bits.{bit_and, bit_or, and_step, or_step, or_shr, and_zero_r, and_le_r, and_mask, and_self, and_block}
+use lib.Bits.{bit_and, bit_or, and_step, or_step, or_shr, and_zero_r, and_zero_l, and_le_r, and_mask, and_self, and_block}
 use lib.Dec.{eqb, leb, ltb}
 use borrow.Author.Tests.{eq-eqb, ne_eqb, eqb-true, eqb-false, leb-true, leb-false, lt-ltb, le-ltb}
 use Rattle.codes.specs.Words.{blanks, full, ended}
@@ -246,3 +246,39 @@ last_blank n v t =
     sym (and_assoc (ltb 0 (blanks n v)) (ended n v) t)
     ∙ ap (λ (s : Bool). s && t) (low_blank n v)
     ∙ and_assoc (eqb (v % 4) 0) (ended n v) t
+
+-- The tests as the code makes them.
+
+-- no digit is zero where the mask of those that are not is whole
+mask_whole : (w x z : ℕ) (t : Bool) → x ≤ w → (w - x) * 3 ≡ z → eqb z 0 ≡ t → eqb x w ≡ t
+mask_whole w x z true h e f = eq-eqb x w (omega (arith, eqb-true z 0 f))
+mask_whole w x z false h e f = ne_eqb x w (λ k. eqb-false z 0 f (omega arith))
+
+pub full_mask : (v : ℕ) → eqb (bit_and (bit_or v (v / 2)) 6148914691236517205) 6148914691236517205 ≡ full 32 v
+full_mask v =
+    mask_whole 6148914691236517205 (bit_and (met v) 6148914691236517205) (blanks 32 v) (full 32 v)
+    (and_le_r (met v) 6148914691236517205) (blanks_mask 32 v) (blanks_full 32 v)
+
+-- one more than the zeros of a word that is zero is no number of 64 bits
+pub end_mask : (v z : ℕ) → v < 2 ^ 64 → z ≡ blanks 32 v
+    → (eqb (bit_and z ((z + 1) % 18446744073709551616)) 0 && not (eqb (bit_and (v / 2) ((z + 1) % 18446744073709551616)) 0)) ≡ ended 32 v
+end_mask v z h e = go (eqb v 0) refl
+  where
+    go : (s : Bool) → eqb v 0 ≡ s
+        → (eqb (bit_and z ((z + 1) % 18446744073709551616)) 0 && not (eqb (bit_and (v / 2) ((z + 1) % 18446744073709551616)) 0)) ≡ ended 32 v
+    go false f =
+        let k : z + 1 < 18446744073709551616 = omega (arith, e, blanks_some 32 v h (eqb-false v 0 f)) in
+        let m : (z + 1) % 18446744073709551616 ≡ z + 1 = omega arith in
+        rw (m, e) (ended_blanks 32 v h)
+    go true f =
+        let n : v ≡ 0 = eqb-true v 0 f in
+        let m : v / 2 ≡ 0 = omega arith in
+        rw (m, and_zero_l ((z + 1) % 18446744073709551616), and-false (eqb (bit_and z ((z + 1) % 18446744073709551616)) 0)) (ended_zero 32 v n)
+
+pub blanks_wrap : (v : ℕ) → (6148914691236517205 - bit_and (bit_or v (v / 2)) 6148914691236517205) * 3 % 18446744073709551616 ≡ blanks 32 v
+blanks_wrap v = omega (arith, blanks_mask 32 v, blanks_lt 32 v)
+
+pub mask_fits : (v : ℕ) → bit_and (bit_or v (v / 2)) 6148914691236517205 ≤ 6148914691236517205
+mask_fits v = and_le_r (met v) 6148914691236517205
+
+pub ruleset blank = (blanks_wrap, mask_fits)

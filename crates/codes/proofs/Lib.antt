@@ -2,6 +2,7 @@
 pub mod FieldLaws
 pub mod TestLaws
 pub mod WordLaws
+pub mod CompareLaws
 pub mod DigitLaws
 pub mod ClosedLaws
 pub mod ReadingLaws

@@ -134,3 +134,12 @@ gather_push (suc n) (a ∷ b ∷ c ∷ []) d h = ap (λ v. v ∷ gather n []) (o
 gather_push (suc n) (a ∷ b ∷ c ∷ e ∷ x) d h =
     let l : length (a ∷ b ∷ c ∷ e ∷ x) / 4 ≡ suc (length x / 4) = omega arith in
     rw (l, behind_four a b c e x d) (ap (λ t. byte_of a b c e ∷ t) (gather_push n x d (omega arith)))
+
+-- for `begun`
+pub begun_zero : (k v : ℕ) → k ≡ 0 → begun k v ≡ 0
+begun_zero k v e = rw e refl
+
+pub begun_more : (k v : ℕ) → (k ≡ 0 → ⊥) → begun k v ≡ v
+begun_more k v n = sym (begun_on k v v n refl)
+
+pub ruleset beginning = (begun_zero, begun_more)

@@ -12,10 +12,9 @@ use borrow.Author.Tests.{eq-eqb, ne_eqb, eqb-true, eqb-false, le-leb, leb-true, 
 use Rattle.digits.specs.Order.{Digits}
 use Rattle.digits.specs.Code.{Formed}
 use Rattle.digits.proofs.CodeLaws.{formed_cons, formed_first}
-use Rattle.codes.specs.declared.field.Kind.TheVariants.{Full, Empty, Unsound}
 use Rattle.codes.specs.Code.{longest, field_size, IsCode, is_code}
 use Rattle.codes.specs.Field.{field_of, gather, spread, lead}
-use Rattle.codes.specs.Reading.{Reading, code, empty, unsound, is_same, read, kind_of, is_code_held, is_empty_held, side_of}
+use Rattle.codes.specs.Reading.{Reading, code, empty, unsound, is_same, read, is_code_held, is_empty_held, side_of}
 use Rattle.codes.specs.Words.{word_at, is_packed}
 use Rattle.codes.proofs.FieldLaws.{Quaternary, Bytes, pad, gather_spread, gather_bytes, formed_quaternary, field_length, spread_field, lead_field}
 use Rattle.codes.proofs.TestLaws.{is_code_true, true_is_code}
@@ -199,7 +198,7 @@ is_whole n x = eqb (get_or x n 0) 0 && is_closed x
 pad_whole : (n : ℕ) (x : Digits) → Formed 1 3 x → length x ≤ n → is_whole n (pad (suc n) x) ≡ true
 pad_whole n x f h = rw (pad_past (suc n) x n h, pad_closed (suc n) x f (omega arith)) refl
 
--- The kind of a field by its four words.
+-- What a field reads as by its four words.
 
 abbrev is_packed_field : List ℕ → Bool
 is_packed_field b = is_packed (word_at b 0) (word_at b 8) (word_at b 16) (word_at b 24)
@@ -267,29 +266,28 @@ module _ (b : List ℕ) (size : length b ≡ field_size) (bytes : Bytes b) where
       go true h = sym (ap is_empty_held (blank_read h))
       go false h = none (read b) refl h
 
--- the kind by the two tests
-pub kind_full : (r : Reading) → is_code_held r ≡ true → Full ≡ kind_of r
-kind_full (code x) h = refl
-kind_full empty h = absurd (false≢true h)
-kind_full unsound h = absurd (false≢true h)
-
-pub kind_empty : (r : Reading) → is_empty_held r ≡ true → Empty ≡ kind_of r
-kind_empty (code x) h = absurd (false≢true h)
-kind_empty empty h = refl
-kind_empty unsound h = absurd (false≢true h)
-
-pub kind_unsound : (r : Reading) → is_code_held r ≡ false → is_empty_held r ≡ false → Unsound ≡ kind_of r
-kind_unsound (code x) h k = absurd (false≢true (sym h))
-kind_unsound empty h k = absurd (false≢true (sym k))
-kind_unsound unsound h k = refl
-
-pub full_kind : (r : Reading) → kind_of r ≡ Full → is_code_held r ≡ true
-full_kind (code x) h = refl
-full_kind empty h = let z : ◌≡◌ {A = ℕ} 0 1 = cc in absurd (omega arith)
-full_kind unsound h = let z : ◌≡◌ {A = ℕ} 0 1 = cc in absurd (omega arith)
-
 -- a field that holds a code reads as it
 pub held_code : (r : Reading) → is_code_held r ≡ true → r ≡ code (side_of r)
 held_code (code x) h = refl
 held_code empty h = absurd (false≢true h)
 held_code unsound h = absurd (false≢true h)
+
+-- a field that holds a code or is empty has 32 bytes
+pub code_size : (b : List ℕ) → is_code_held (read b) ≡ true → length b ≡ 32
+code_size b h = ap length (read_code b _ (held_code (read b) h)).1 ∙ field_length (side_of (read b))
+
+pub empty_size : (b : List ℕ) → is_empty_held (read b) ≡ true → length b ≡ 32
+empty_size b h = go (read b) refl h
+  where
+    go : (r : Reading) → read b ≡ r → is_empty_held r ≡ true → length b ≡ 32
+    go (code x) e k = absurd (false≢true k)
+    go empty e k = ap length (read_empty b e) ∙ field_length []
+    go unsound e k = absurd (false≢true k)
+
+pub no_code_size : (b : List ℕ) → (length b ≡ 32 → ⊥) → is_code_held (read b) ≡ false
+no_code_size b n = ap is_code_held (read_size b n)
+
+pub not_empty_size : (b : List ℕ) → (length b ≡ 32 → ⊥) → is_empty_held (read b) ≡ false
+not_empty_size b n = ap is_empty_held (read_size b n)
+
+pub ruleset sizes = (code_size, empty_size)

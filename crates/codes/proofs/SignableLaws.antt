@@ -9,11 +9,11 @@ use lib.ListN.{length}
 use borrow.Author.Tests.{leb-true}
 use Rattle.digits.specs.Order.{Digits}
 use Rattle.digits.specs.Between.{between}
+use Rattle.std.specs.Prelude.{⊤, Result, Ok, Err}
+use Rattle.answers.specs.declared.Refusal.{Refusal}
 use Rattle.answers.specs.declared.Refusal.TheVariants.{Room, CodeLength, NoCode}
 use Rattle.answers.specs.Signed.{Signable}
 use Rattle.answers.proofs.SignedLaws.{unless_signable}
-use Rattle.codes.specs.declared.Sides.{Sides}
-use Rattle.codes.specs.declared.Sides.TheVariants.{Ordered, NoSide, Disordered}
 use Rattle.codes.specs.Code.{longest, field_size, is_code}
 use Rattle.codes.specs.Reading.{Reading, code, empty, unsound, read, side_of}
 use Rattle.codes.specs.Calls.{pack_outcome, unpack_as, unpack_outcome, sides_of, between_as, between_outcome}
@@ -35,10 +35,9 @@ unpack_signable field lent = go (read field) refl
     go empty e = tt
     go unsound e = tt
 
-as_signable : (s : Sides) (x : Digits) (lent : List ℕ) → Signable (between_as s x lent).answer
-as_signable NoSide x lent = tt
-as_signable Disordered x lent = tt
-as_signable Ordered x lent =
+as_signable : (s : Result ⊤ Refusal) (x : Digits) (lent : List ℕ) → Signable (between_as s x lent).answer
+as_signable (Err refusal) x lent = tt
+as_signable (Ok ordered) x lent =
     unless_signable (leb field_size (length lent)) Room lent _
     (λ _. unless_signable (leb (length x) longest) CodeLength lent _ (λ e. omega (arith, leb-true (length x) longest e)))
 

@@ -151,7 +151,7 @@ module _ (x y : List ℕ) (ex : length x ≡ field_size) (ey : length y ≡ fiel
   next : 8 * k + 8 ≡ 8 * (k + 1)
   next = omega arith
 
-  is_below_word : is_below (drop (8 * k) x) (drop (8 * k) y)
+  pub is_below_word : is_below (drop (8 * k) x) (drop (8 * k) y)
       ≡ below_at (compare (word_at x (8 * k)) (word_at y (8 * k))) (is_below (drop (8 * (k + 1)) x) (drop (8 * (k + 1)) y))
   is_below_word =
       let l = part_length x (8 * k) (omega arith) ∙ sym (part_length y (8 * k) (omega arith)) in

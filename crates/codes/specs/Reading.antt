@@ -2,8 +2,6 @@
 -- Assumes nothing.
 use Rattle.std.specs.Prelude.{Bool, true, false, cond, ◌&&◌, List, [], ◌∷◌, ℕ, eqb}
 use Rattle.digits.specs.Order.{Digits}
-use Rattle.codes.specs.declared.field.Kind.{Kind}
-use Rattle.codes.specs.declared.field.Kind.TheVariants.{Full, Empty, Unsound}
 use Rattle.codes.specs.Code.{is_code}
 use Rattle.codes.specs.Field.{field_of, spread, lead}
 
@@ -19,18 +17,12 @@ is_same [] (b ∷ y) = false
 is_same (a ∷ x) [] = false
 is_same (a ∷ x) (b ∷ y) = eqb a b && is_same x y
 
--- 01, Packed field: the field of the code x, the empty field, or unsound. The whole field is compared, fill and length with it
+-- the packed field: the field of the code x, the empty field, or unsound. The whole field is compared, fill and length with it
 abbrev pub read_as : Digits → List ℕ → Reading
 read_as x field = cond (is_same field (field_of x)) (cond (is_code x) (code x) (cond (is_same x []) empty unsound)) unsound
 
 unfoldable pub read : List ℕ → Reading
 read field = read_as (lead (spread field)) field
-
--- the three cases without the digits
-abbrev pub kind_of : Reading → Kind
-kind_of (code x) = Full
-kind_of empty = Empty
-kind_of unsound = Unsound
 
 -- a field that holds a code, and an empty one
 abbrev pub is_code_held : Reading → Bool
@@ -43,7 +35,7 @@ is_empty_held (code x) = false
 is_empty_held empty = true
 is_empty_held unsound = false
 
--- 01, between: the digits of a side; an empty field is an open side, with no digits
+-- for the step between: the digits of a side; an empty field is an open side, with no digits
 abbrev pub side_of : Reading → Digits
 side_of (code x) = x
 side_of empty = []

@@ -1,6 +1,6 @@
 -- A field by its eight-byte words: what the private helpers of the module field answer.
 -- Assumes nothing.
-use Rattle.std.specs.Prelude.{Bool, true, false, cond, ◌&&◌, List, ℕ, zero, suc, ◌+◌, ◌*◌, ◌/◌, ◌%◌, eqb, leb, get_or}
+use Rattle.std.specs.Prelude.{Bool, true, false, cond, ◌&&◌, List, ℕ, zero, suc, ◌+◌, ◌*◌, ◌/◌, ◌%◌, ℤ, pos, negsuc, eqb, leb, get_or}
 
 -- the number of the eight bytes from index at on, the first the highest
 abbrev pub word_at : List ℕ → ℕ → ℕ
@@ -30,3 +30,11 @@ is_packed a b c d =
     cond (eqb d 0)
     (cond (eqb c 0) (cond (eqb b 0) (ended 32 a) (ended 32 b && full 32 a)) (ended 32 c && (full 32 b && full 32 a)))
     (eqb (d % 4) 0 && (ended 32 d && (full 32 c && (full 32 b && full 32 a))))
+
+-- the last two words of a field as one number
+abbrev pub last_two : List ℕ → ℕ
+last_two b = word_at b 16 * 18446744073709551616 + word_at b 24
+
+-- minus one, zero or plus one, by the two tests of an order
+abbrev pub sign_of : Bool → Bool → ℤ
+sign_of below above = cond below (negsuc 0) (cond above (pos 1) (pos 0))

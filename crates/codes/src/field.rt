@@ -1,199 +1,176 @@
-// A lent field, read and compared without spreading it out.
-ghost use Rattle.std.specs.Prelude.{◌≡◌, ◌&&◌, ◌+◌, ◌≤◌, ◌<◌, length};
+//! A lent field, read and compared where it lies, without spreading it out.
+ghost use Rattle.std.specs.Prelude.{◌≡◌, ◌*◌, ◌<◌};
 ghost use Rattle.digits.specs.Order.{is_below, order_by};
-ghost use Rattle.codes.specs.Code.{field_size};
-ghost use Rattle.codes.specs.Reading.{read, kind_of, is_code_held, is_empty_held, is_same};
-ghost use Rattle.codes.specs.Words.{word_at, blanks as blanks_of, full, ended, is_packed};
+ghost use Rattle.codes.specs.Reading.{read, is_code_held, is_empty_held, is_same};
+ghost use Rattle.codes.specs.Words.{word_at, blanks as blanks_of, full, ended, is_packed, last_two as last_two_of, sign_of};
 
 use crate::spread::Code;
 
-// What a field holds: a code, nothing, or neither.
-#[derive(Clone, Copy)]
-pub enum Kind {
-    Full,
-    Empty,
-    Unsound,
-}
+/// A packed field.
+pub type Field = [u8; Code::FIELD];
 
 // A 1 in each of a word's 32 digits.
-const ONES: u64 = 0x5555555555555555;
+const ONES: u64 = 0x5555_5555_5555_5555;
 
-// A byte as a word.
-fn wide(byte: u8) -> u64
-    ensures { (result ≡ byte) × (result < 256) }
-{
-    byte as u64
-}
+// What a word weighs that stands before another.
+const WORD: u128 = 0x1_0000_0000_0000_0000;
 
-// The eight bytes from a place on as one number, the first the highest.
-fn word(field: &[u8], at: usize) -> u64
-    requires { at + 8 ≤ length field.now }
-    ensures { result ≡ word_at field.now at }
+// The k-th eight bytes as one number, the first the highest.
+#[inline(always)]
+fn word(field: &Field, k: usize) -> u64
+    requires { k < 4 }
+    ensures { result ≡ word_at field.now (8 * k) }
 {
-    (wide(field[at]) * 16777216
-        + wide(field[at + 1]) * 65536
-        + wide(field[at + 2]) * 256
-        + wide(field[at + 3]))
-        * 4294967296
-        + (wide(field[at + 4]) * 16777216
-            + wide(field[at + 5]) * 65536
-            + wide(field[at + 6]) * 256
-            + wide(field[at + 7]))
+    u64::from_be_bytes(<[u8; 8]>::try_from(&field[8 * k..8 * k + 8]).unwrap())
 }
 
 // A 3 in the place of each of a word's 32 digits that is zero.
+#[inline(always)]
+#[tactic(auto, using(crate::proofs::DigitLaws::blank))]
 fn blanks(word: u64) -> u64
     ensures { result ≡ blanks_of 32 word }
 {
-    (ONES - ((word | (word >> 1)) & ONES)) * 3
+    (ONES - ((word | (word >> 1)) & ONES)).wrapping_mul(3)
 }
 
 // None of a word's digits is zero.
-fn full_word(word: u64) -> bool
+#[inline(always)]
+#[tactic(auto, using(crate::proofs::DigitLaws::full_mask))]
+fn is_full(word: u64) -> bool
     ensures { result ≡ full 32 word }
 {
-    blanks(word) == 0
+    (word | (word >> 1)) & ONES == ONES
 }
 
-// A code ends in this word.
-fn end_word(word: u64) -> bool
+// A code ends in a word: those of its digits that are zero are the lowest, and the one above them is 2 or 3.
+#[inline(always)]
+#[tactic(auto, using(crate::proofs::DigitLaws::end_mask))]
+fn has_end(word: u64) -> bool
     ensures { result ≡ ended 32 word }
 {
-    if word == 0 {
-        return false;
-    }
-    end_above(word, blanks(word))
+    let zeros = blanks(word);
+    let last = zeros.wrapping_add(1);
+    (zeros & last == 0) & ((word >> 1) & last != 0)
 }
 
-// A code ends in this word: those of its digits that are zero are the lowest, and the one above them is 2 or 3.
-fn end_above(word: u64, zeros: u64) -> bool
-    requires zeros { zeros ≡ blanks_of 32 word }
-    requires some { word ≡ 0 → ⊥ }
-    ensures { result ≡ ended 32 word }
-{
-    let last = zeros + 1;
-    if zeros & last == 0 {
-        return (word >> 1) & last != 0;
-    }
-    false
-}
-
-// Both tests.
-fn also(a: bool, b: bool) -> bool
-    ensures { result ≡ a && b }
-{
-    if a {
-        return b;
-    }
-    false
-}
-
-// Four words are a packed code.
+// Four words are a packed code. The branches are on its length alone, which mostly repeats.
+#[inline(always)]
 fn packed(a: u64, b: u64, c: u64, d: u64) -> bool
     ensures { result ≡ is_packed a b c d }
 {
-    if d == 0 {
-        if c == 0 {
-            if b == 0 {
-                return end_word(a);
-            }
-            return also(end_word(b), full_word(a));
-        }
-        return also(end_word(c), also(full_word(b), full_word(a)));
+    if d != 0 {
+        return (d % 4 == 0) & (has_end(d) & (is_full(c) & (is_full(b) & is_full(a))));
     }
-    let zeros = blanks(d);
-    also(
-        0 < zeros,
-        also(
-            end_above(d, zeros),
-            also(full_word(c), also(full_word(b), full_word(a))),
-        ),
+    if c != 0 {
+        return has_end(c) & (is_full(b) & is_full(a));
+    }
+    if b != 0 {
+        return has_end(b) & is_full(a);
+    }
+    has_end(a)
+}
+
+// The field's words are a packed code.
+#[inline(always)]
+fn is_code(field: &Field) -> bool
+    ensures { result ≡ is_code_held (read field.now) }
+{
+    packed(
+        word(field, 0),
+        word(field, 1),
+        word(field, 2),
+        word(field, 3),
     )
 }
 
-// A field holds a code. One of another size than 32 bytes holds none.
+// The field's words are zero.
+#[inline(always)]
+fn is_zero(field: &Field) -> bool
+    ensures { result ≡ is_empty_held (read field.now) }
+{
+    (word(field, 0) == 0)
+        & ((word(field, 1) == 0) & ((word(field, 2) == 0) & (word(field, 3) == 0)))
+}
+
+/// A field holds a code. One of another size than 32 bytes holds none.
+#[inline(always)]
+#[tactic(auto, using(crate::proofs::ReadingLaws::no_code_size))]
 pub fn holds_code(field: &[u8]) -> bool
     ensures code { result ≡ is_code_held (read field.now) }
 {
-    if field.len() != Code::FIELD {
+    let Ok(field) = <&Field>::try_from(field) else {
         return false;
-    }
-    packed(
-        word(field, 0),
-        word(field, 8),
-        word(field, 16),
-        word(field, 24),
-    )
+    };
+    is_code(field)
 }
 
-// A field is empty. One of another size than 32 bytes is not.
+/// A field is empty. One of another size than 32 bytes is not.
+#[inline(always)]
+#[tactic(auto, using(crate::proofs::ReadingLaws::not_empty_size))]
 pub fn is_empty(field: &[u8]) -> bool
     ensures empty { result ≡ is_empty_held (read field.now) }
 {
-    if field.len() != Code::FIELD {
+    let Ok(field) = <&Field>::try_from(field) else {
         return false;
-    }
-    also(
-        word(field, 0) == 0,
-        also(
-            word(field, 8) == 0,
-            also(word(field, 16) == 0, word(field, 24) == 0),
-        ),
-    )
+    };
+    is_zero(field)
 }
 
-// What a field holds.
-pub fn kind_of(field: &[u8]) -> Kind
-    ensures kind { result ≡ kind_of (read field.now) }
+// The last two words as one number.
+#[inline(always)]
+fn last_two(field: &Field) -> u128
+    ensures { result ≡ last_two_of field.now }
 {
-    if holds_code(field) {
-        return Kind::Full;
-    }
-    if is_empty(field) {
-        return Kind::Empty;
-    }
-    Kind::Unsound
+    word(field, 2) as u128 * WORD + word(field, 3) as u128
 }
 
-// Minus one, zero or plus one, as the left field is below the right one, the same or above it.
-pub fn compare(left: &[u8], right: &[u8]) -> i32
-    requires whole { (length left.now ≡ field_size) × (length right.now ≡ field_size) }
+// Minus one, zero or plus one.
+#[inline(always)]
+fn sign(below: bool, above: bool) -> i32
+    ensures { result ≡ sign_of below above }
+{
+    if below { -1 } else { i32::from(above) }
+}
+
+/// Minus one, zero or plus one, as the left field is below the right one, the same or above it.
+#[inline(always)]
+pub fn compare(left: &Field, right: &Field) -> i32
     ensures order { result ≡ order_by left.now right.now }
 {
-    let mut k = 0;
-    while k < 4 {
-        let a = word(left, 8 * k);
-        let b = word(right, 8 * k);
-        if a < b {
-            return -1;
-        }
-        if b < a {
-            return 1;
-        }
-        k += 1;
+    let (a, b) = (word(left, 0), word(right, 0));
+    if a != b {
+        return sign(a < b, b < a);
     }
-    0
+    let (a, b) = (word(left, 1), word(right, 1));
+    if a != b {
+        return sign(a < b, b < a);
+    }
+    let (a, b) = (last_two(left), last_two(right));
+    sign(a < b, b < a)
 }
 
-// The left field is below the right one.
-pub fn below(left: &[u8], right: &[u8]) -> bool
-    requires whole { (length left.now ≡ field_size) × (length right.now ≡ field_size) }
+/// The left field is below the right one.
+#[inline(always)]
+pub fn below(left: &Field, right: &Field) -> bool
     ensures order { result ≡ is_below left.now right.now }
 {
-    compare(left, right) < 0
+    let (a, b) = (word(left, 0), word(right, 0));
+    if a != b {
+        return a < b;
+    }
+    let (a, b) = (word(left, 1), word(right, 1));
+    if a != b {
+        return a < b;
+    }
+    last_two(left) < last_two(right)
 }
 
-// The two fields are the same to the last byte.
-pub fn same(left: &[u8], right: &[u8]) -> bool
-    requires whole { (length left.now ≡ field_size) × (length right.now ≡ field_size) }
+/// The two fields are the same to the last byte.
+#[inline(always)]
+pub fn same(left: &Field, right: &Field) -> bool
     ensures same { result ≡ is_same left.now right.now }
 {
-    let mut k = 0;
-    while k < 4 {
-        if word(left, 8 * k) != word(right, 8 * k) {
-            return false;
-        }
-        k += 1;
-    }
-    true
+    (word(left, 0) == word(right, 0))
+        & ((word(left, 1) == word(right, 1))
+            & ((word(left, 2) == word(right, 2)) & (word(left, 3) == word(right, 3))))
 }

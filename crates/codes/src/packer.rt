@@ -1,16 +1,27 @@
-// Digits below 4 packed four to a byte, from the top down.
+//! Digits below 4 packed four to a byte, from the top down.
 ghost use Rattle.std.specs.Prelude.{◌≡◌};
-ghost use Rattle.codes.specs.Packer.{nothing, pushed, Open, Pushable};
+ghost use Rattle.codes.specs.Packer.{nothing, begun as begun_of, pushed, Open, Pushable};
 
-// The byte that is being filled, and how many digits were pushed.
+/// The byte that is being filled, and how many digits were pushed.
+// It stays a record of the two, pushed by value, with one thin function over `&mut`: packing digit by digit with such a record is asked for.
 #[derive(Clone, Copy)]
 pub struct Packer {
     pub pending: u8,
     pub count: usize,
 }
 
+// The byte starts anew behind each fourth digit.
+#[inline(always)]
+#[tactic(auto, using(crate::proofs::PackerLaws::beginning))]
+fn begun(place: usize, pending: u8) -> u8
+    ensures { result ≡ begun_of place pending }
+{
+    if place == 0 { 0 } else { pending }
+}
+
 impl Packer {
-    // Before the first digit.
+    /// Before the first digit.
+    #[inline(always)]
     pub fn new() -> Self
         ensures nothing { result ≡ nothing }
     {
@@ -20,35 +31,37 @@ impl Packer {
         }
     }
 
-    // One digit further: it takes the two highest bits that are free.
+    /// One digit further: it takes the two highest bits that are free.
+    #[inline(always)]
     pub fn push(self, digit: u8) -> Packer
         requires pushable { Pushable self digit }
         ensures pushed { result ≡ pushed self digit }
         ensures open { Open result }
     {
         let place = self.count % 4;
-        let begun = if place == 0 { 0 } else { self.pending };
         Packer {
-            pending: begun + (digit << (6 - place * 2)),
+            pending: begun(place, self.pending) + (digit << (6 - place * 2)),
             count: self.count + 1,
         }
     }
+
+    /// The same in place.
+    #[inline(always)]
+    pub fn push_in(&mut self, digit: u8)
+        requires pushable { Pushable self.old digit }
+        ensures pushed { self.new ≡ pushed self.old digit }
+        ensures open { Open self.new }
+    {
+        *self = self.push(digit);
+    }
 }
 
-// The same in place.
-pub fn push_in(p: &mut Packer, digit: u8)
-    requires pushable { Pushable p.old digit }
-    ensures pushed { p.new ≡ pushed p.old digit }
-{
-    *p = (*p).push(digit);
-}
-
-// The byte that is being filled after one more digit.
+/// The byte that is being filled after one more digit.
 pub fn byte_after(pending: u8, count: usize, digit: u8) -> u8
     requires pushable { Pushable (record { pending = pending; count = count }) digit }
     ensures byte { result ≡ (pushed (record { pending = pending; count = count }) digit).pending }
 {
     let mut p = Packer { pending, count };
-    push_in(&mut p, digit);
+    p.push_in(digit);
     p.pending
 }

@@ -17,25 +17,25 @@ use edits::{Edit, Place};
 pub fn plant_order(u: &[u8], v: &[u8]) -> i32
     ensures answer { result ≡ order_answer u.now v.now }
 {
-    labels::order(u, v)
+    labels::order(u, v).signed()
 }
 
 pub fn plant_above(u: &[u8], v: &[u8]) -> i32
     ensures answer { result ≡ above_answer u.now v.now }
 {
-    labels::above(u, v)
+    labels::above(u, v).signed()
 }
 
 pub fn plant_parent(u: &[u8], v: &[u8]) -> i32
     ensures answer { result ≡ parent_answer u.now v.now }
 {
-    labels::parent(u, v)
+    labels::parent(u, v).signed()
 }
 
 pub fn plant_sibling(u: &[u8], v: &[u8]) -> i32
     ensures answer { result ≡ sibling_answer u.now v.now }
 {
-    labels::sibling(u, v)
+    labels::sibling(u, v).signed()
 }
 
 pub fn plant_pack(digits: &[u8], field: &mut [u8]) -> i32

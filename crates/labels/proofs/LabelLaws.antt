@@ -2,24 +2,20 @@
 -- Assumes nothing.
 use mathlib.Core.Path.{◌≡◌, refl, sym, ap, ◌∙◌}
 use mathlib.Core.Logic.{◌⊎◌, inl, inr}
-use mathlib.Core.Bool.{Bool, true, false, ◌&&◌, and-eq-true_iff, false≢true}
+use mathlib.Core.Bool.{Bool, true, false, cond, ◌&&◌, and-eq-true_iff, false≢true}
 use mathlib.Core.List.{List, []}
-use Prim.Native.Nat.{ℕ, ◌+◌, ◌≤◌}
-use native.Mathlib.Omega.{arith}
+use Prim.Native.Nat.{ℕ}
 use lib.Dec.{eqb}
-use lib.ListN.{length, length-take, length-drop}
+use lib.ListN.{length}
 use borrow.Author.Tests.{eq-eqb, ne_eqb, eqb-true}
 use Rattle.digits.specs.Order.{Digits, Below, is_below}
 use Rattle.digits.proofs.OrderLaws.{is_below_gives}
-use Rattle.codes.specs.Code.{field_size, IsCode}
+use Rattle.codes.specs.Code.{IsCode}
 use Rattle.codes.specs.Field.{field_of}
 use Rattle.codes.specs.Reading.{Reading, code, empty, unsound, read, is_code_held, is_empty_held, side_of}
 use Rattle.codes.proofs.ReadingLaws.{Sided, read_code, read_empty, held_code}
 use Rattle.codes.proofs.CallLaws.{held_below}
-use Rattle.labels.specs.Label.{start_at, end_at, parent_at, label_size, field_at, Label, label_of, is_parent_sound, is_sound_as, is_sound}
-
-pub field_size_lem : (b : List ℕ) (at : ℕ) → at + field_size ≤ length b → length (field_at at b) ≡ field_size
-field_size_lem b at h = simp (length-take, length-drop) (omega arith)
+use Rattle.labels.specs.Label.{start_at, end_at, parent_at, label_size, field_at, Label, label_of, label_by, are_sound, is_parent_sound, is_sound_as, is_sound}
 
 -- a test that holds, as a fact
 pub is_below_holds : (x y : Digits) → is_below x y ≡ true → Below x y
@@ -48,55 +44,74 @@ pub record Sound (b : List ℕ) (u : Label) : Type 0 where
   pub spans : Below u.start u.end
   pub under : (u.parent ≡ []) ⊎ Below u.parent u.start
 
-sound_as : (b : List ℕ) (r e p : Reading) → length b ≡ label_size → read (field_at start_at b) ≡ r → read (field_at end_at b) ≡ e
-    → read (field_at parent_at b) ≡ p → is_sound_as r e p ≡ true
-    → Sound b (record { start = side_of r; end = side_of e; parent = side_of p })
-sound_as b (code s) (code e) (code p) n i j k h =
-    let t = (and-eq-true_iff (is_below s e) (is_below p s)).0 h in
-    let x = read_code _ s i in
-    let y = read_code _ e j in
-    let z = read_code _ p k in
-    record {
-      size = n;
-      start_code = x.0;
-      start_field = x.1;
-      end_code = y.0;
-      end_field = y.1;
-      parent_side = inr z.0;
-      parent_field = z.1;
-      spans = is_below_holds s e t.0;
-      under = inr (is_below_holds p s t.1);
-    }
-sound_as b (code s) (code e) empty n i j k h =
-    let t = (and-eq-true_iff (is_below s e) true).0 h in
-    let x = read_code _ s i in
-    let y = read_code _ e j in
-    record {
-      size = n;
-      start_code = x.0;
-      start_field = x.1;
-      end_code = y.0;
-      end_field = y.1;
-      parent_side = inl refl;
-      parent_field = read_empty _ k;
-      spans = is_below_holds s e t.0;
-      under = inl refl;
-    }
-sound_as b (code s) (code e) unsound n i j k h = absurd (false≢true ((and-eq-true_iff (is_below s e) false).0 h).1)
-sound_as b (code s) empty p n i j k h = absurd (false≢true h)
-sound_as b (code s) unsound p n i j k h = absurd (false≢true h)
-sound_as b empty e p n i j k h = absurd (false≢true h)
-sound_as b unsound e p n i j k h = absurd (false≢true h)
+-- what three sound fields hold
+pub record SoundFields (s e p : List ℕ) (u : Label) : Type 0 where
+  pub start_code : IsCode u.start
+  pub start_field : s ≡ field_of u.start
+  pub end_code : IsCode u.end
+  pub end_field : e ≡ field_of u.end
+  pub parent_side : Sided u.parent
+  pub parent_field : p ≡ field_of u.parent
+  pub spans : Below u.start u.end
+  pub under : (u.parent ≡ []) ⊎ Below u.parent u.start
+
+module _ (s e p : List ℕ) where
+  fields_as : (i j k : Reading) → read s ≡ i → read e ≡ j → read p ≡ k → is_sound_as i j k ≡ true
+      → SoundFields s e p (record { start = side_of i; end = side_of j; parent = side_of k })
+  fields_as (code x) (code y) (code z) a b c h =
+      let t = (and-eq-true_iff (is_below x y) (is_below z x)).0 h in
+      let k = read_code _ x a in
+      let l = read_code _ y b in
+      let m = read_code _ z c in
+      record {
+        start_code = k.0;
+        start_field = k.1;
+        end_code = l.0;
+        end_field = l.1;
+        parent_side = inr m.0;
+        parent_field = m.1;
+        spans = is_below_holds x y t.0;
+        under = inr (is_below_holds z x t.1);
+      }
+  fields_as (code x) (code y) empty a b c h =
+      let t = (and-eq-true_iff (is_below x y) true).0 h in
+      let k = read_code _ x a in
+      let l = read_code _ y b in
+      record {
+        start_code = k.0;
+        start_field = k.1;
+        end_code = l.0;
+        end_field = l.1;
+        parent_side = inl refl;
+        parent_field = read_empty _ c;
+        spans = is_below_holds x y t.0;
+        under = inl refl;
+      }
+  fields_as (code x) (code y) unsound a b c h = absurd (false≢true ((and-eq-true_iff (is_below x y) false).0 h).1)
+  fields_as (code x) empty k a b c h = absurd (false≢true h)
+  fields_as (code x) unsound k a b c h = absurd (false≢true h)
+  fields_as empty j k a b c h = absurd (false≢true h)
+  fields_as unsound j k a b c h = absurd (false≢true h)
+
+  pub fields_sound : is_sound_as (read s) (read e) (read p) ≡ true → SoundFields s e p (label_by s e p)
+  fields_sound h = fields_as (read s) (read e) (read p) refl refl refl h
 
 pub sound_gives : (b : List ℕ) → is_sound b ≡ true → Sound b (label_of b)
 unfolding is_sound label_of
 sound_gives b h =
     let t = (and-eq-true_iff (eqb (length b) label_size) _).0 h in
-    sound_as b _ _ _ (eqb-true (length b) label_size t.0) refl refl refl t.1
-
--- a call on two sound labels knows the size of both
-pub both_sizes : (a b : List ℕ) → (is_sound a ≡ true) × (is_sound b ≡ true) → (length a ≡ label_size) × (length b ≡ label_size)
-both_sizes a b h = ((sound_gives a h.0).size, (sound_gives b h.1).size)
+    let f = fields_sound _ _ _ t.1 in
+    record {
+      size = eqb-true (length b) label_size t.0;
+      start_code = f.start_code;
+      start_field = f.start_field;
+      end_code = f.end_code;
+      end_field = f.end_field;
+      parent_side = f.parent_side;
+      parent_field = f.parent_field;
+      spans = f.spans;
+      under = f.under;
+    }
 
 -- soundness field by field
 not_start : (r e p : Reading) → is_code_held r ≡ false → is_sound_as r e p ≡ false
@@ -119,38 +134,45 @@ both_codes (code s) unsound p h k = absurd (false≢true k)
 both_codes empty e p h k = absurd (false≢true h)
 both_codes unsound e p h k = absurd (false≢true h)
 
-pub sound_size : (b : List ℕ) → (length b ≡ label_size → ⊥) → false ≡ is_sound b
+-- by the tests on the three fields
+module _ (s e p : List ℕ) where
+  abbrev tested : Bool
+  tested = cond (is_code_held (read p)) (is_below p s) (is_empty_held (read p))
+
+  at_parent : is_code_held (read s) ≡ true → (t : Bool) → is_code_held (read p) ≡ t
+      → cond t (is_below p s) (is_empty_held (read p)) ≡ is_parent_sound (read p) (side_of (read s))
+  at_parent h true k = parent_code p s k h
+  at_parent h false k = parent_none (read p) (side_of (read s)) k
+
+  at_end : is_code_held (read s) ≡ true → (t : Bool) → is_code_held (read e) ≡ t
+      → (t && (is_below s e && tested)) ≡ is_sound_as (read s) (read e) (read p)
+  at_end h true k =
+      ap (λ (t : Bool). is_below s e && t) (at_parent h (is_code_held (read p)) refl)
+      ∙ ap (λ (t : Bool). t && is_parent_sound (read p) (side_of (read s))) (held_below s e h k)
+      ∙ sym (both_codes (read s) (read e) (read p) h k)
+  at_end h false k = sym (not_end (read s) (read e) (read p) k)
+
+  at_start : (t : Bool) → is_code_held (read s) ≡ t
+      → (t && (is_code_held (read e) && (is_below s e && tested))) ≡ is_sound_as (read s) (read e) (read p)
+  at_start true h = at_end h (is_code_held (read e)) refl
+  at_start false h = sym (not_start (read s) (read e) (read p) h)
+
+  pub sound_tests : are_sound s e p ≡ is_sound_as (read s) (read e) (read p)
+  sound_tests = at_start (is_code_held (read s)) refl
+
+-- for `Label::read`: a label of another size is not sound, and one of 96 bytes is as the tests say
+pub unsound_size : (b : List ℕ) → (length b ≡ 96 → ⊥) → is_sound b ≡ false
 unfolding is_sound
-sound_size b h = sym (rw (ne_eqb (length b) label_size h) refl)
+unsound_size b h = rw (ne_eqb (length b) label_size h) refl
 
-module _ (b : List ℕ) (size : length b ≡ label_size) where
-  abbrev S : List ℕ
-  S = field_at start_at b
+pub sound_fields : (b s e p : List ℕ) → length b ≡ 96 → s ≡ field_at start_at b → e ≡ field_at end_at b → p ≡ field_at parent_at b
+    → is_sound b ≡ are_sound s e p
+unfolding is_sound
+sound_fields b s e p h f g k = rw (eq-eqb (length b) label_size h, f, g, k) (sym (sound_tests _ _ _))
 
-  abbrev E : List ℕ
-  E = field_at end_at b
+pub label_fields : (b s e p : List ℕ) → s ≡ field_at start_at b → e ≡ field_at end_at b → p ≡ field_at parent_at b
+    → label_of b ≡ label_by s e p
+unfolding label_of
+label_fields b s e p f g k = rw (f, g, k) refl
 
-  abbrev P : List ℕ
-  P = field_at parent_at b
-
-  sized : is_sound b ≡ is_sound_as (read S) (read E) (read P)
-  unfolding is_sound
-  sized = rw (eq-eqb (length b) label_size size) refl
-
-  pub sound_start : is_code_held (read S) ≡ false → false ≡ is_sound b
-  sound_start h = sym (sized ∙ not_start (read S) (read E) (read P) h)
-
-  pub sound_end : is_code_held (read E) ≡ false → false ≡ is_sound b
-  sound_end h = sym (sized ∙ not_end (read S) (read E) (read P) h)
-
-  module _ (start : is_code_held (read S) ≡ true) (end : is_code_held (read E) ≡ true) where
-    codes : is_sound b ≡ (is_below S E && is_parent_sound (read P) (side_of (read S)))
-    codes =
-        sized ∙ both_codes (read S) (read E) (read P) start end
-        ∙ ap (λ (t : Bool). t && is_parent_sound (read P) (side_of (read S))) (sym (held_below S E start end))
-
-    pub sound_span : is_below S E ≡ false → false ≡ is_sound b
-    sound_span h = sym (codes ∙ ap (λ (t : Bool). t && is_parent_sound (read P) (side_of (read S))) h)
-
-    pub sound_parent : is_below S E ≡ true → is_parent_sound (read P) (side_of (read S)) ≡ is_sound b
-    sound_parent h = sym (codes ∙ ap (λ (t : Bool). t && is_parent_sound (read P) (side_of (read S))) h)
+pub ruleset soundness = (unsound_size, sound_fields, label_fields, sound_tests)

@@ -28,12 +28,6 @@ returns-then-field-lt-FIELD c =
     (between_short c.args.left.now c.args.right.now c.args.field.now c.requires.ordered c.if-field-lt-FIELD.true) refl refl in
     record { answer = t.0; bytes = t.1 }
 
-pub of_field-requires : goal.of_field-requires
-of_field-requires c = record { whole = (in_order _ _ c.requires.ordered).left_known.size }
-
-pub of_field-requires-2 : goal.of_field-requires-2
-of_field-requires-2 c = record { whole = (in_order _ _ c.requires.ordered).right_known.size }
-
 pub step-made-requires : goal.step-made-requires
 step-made-requires c = let o = in_order _ _ c.requires.ordered in
     record {

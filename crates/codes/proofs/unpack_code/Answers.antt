@@ -1,11 +1,12 @@
 -- `unpack_code` meets its contract: the field's digits, where there is room for them. Assumes nothing.
 use Rattle.std.specs.Prelude.{Ok}
-use mathlib.Core.Path.{refl, ap, ◌∙◌}
+use mathlib.Core.Path.{refl, sym, ap, ◌∙◌}
 use Prim.Native.Nat.{◌<◌, ◌≤◌}
 use native.Mathlib.Omega.{arith}
 use lib.ListN.{length}
 use Rattle.answers.proofs.OutcomeLaws.{gives}
 use Rattle.numbers.specs.Bytes.{put}
+use Rattle.numbers.proofs.PutLaws.{put_copied_front}
 use Rattle.codes.specs.Reading.{read, side_of}
 use Rattle.codes.specs.Spread.{Held}
 use Rattle.codes.proofs.SpreadLaws.{held_is}
@@ -17,9 +18,6 @@ use Rattle.codes.proofs.unpack_code.Goals.{After-of_field-code}
 -- the digits are those of the code that the field holds
 digits : (f : After-of_field-code) → Held f.of_field-code.result (side_of (read f.args.field.now))
 digits f = held_is _ _ _ (held_known _ f.requires.held).digits f.of_field-code.ensures.held
-
-pub of_field-code-requires : goal.of_field-code-requires
-of_field-code-requires c = record { whole = (held_known _ c.requires.held).size }
 
 pub returns-then-digits-n : goal.returns-then-digits-n
 returns-then-digits-n c =
@@ -33,5 +31,5 @@ returns c =
     let h = digits (goal.at.returns c).After-of_field-code in
     let k : length (side_of (read c.args.field.now)) ≤ length c.args.digits.now = omega (arith, h.count) in
     let t = gives _ _ _ _ _ (unpack_written c.args.field.now c.args.digits.now _ (held_code _ c.requires.held) k) (ap Ok h.count)
-    (c.copy.ensures.bytes ∙ ap (put c.args.digits.now 0) h.digits) in
+    (put_copied_front _ _ _ _ (h.count ∙ sym (ap length h.digits)) c.copy_from_slice.ensures.after ∙ ap (put c.args.digits.now 0) h.digits) in
     record { answer = t.0; bytes = t.1 }

@@ -1,19 +1,23 @@
--- `parent` meets its contract: the answer where both labels are sound, and else the refusal. Assumes nothing.
-use mathlib.Core.Path.{sym, ap, ◌∙◌}
-use mir.Syntax.{w32}
-use Rattle.answers.specs.Signed.{yes_no}
-use Rattle.answers.proofs.SignedLaws.{read_back}
-use Rattle.labels.proofs.QuestionLaws.{asked_answer, asked_refused}
+-- Refused where one of the labels is not sound, and else the answer on their codes.
+use Rattle.std.proofs.Common.{◌∙◌, refl}
+use Rattle.std.proofs.lemmas.Result.{err_from_is_err_and}
+use Rattle.labels.proofs.QuestionLaws.{left_refused, right_refused, both_answered}
 use Rattle.labels.proofs.parent.Goals as goal
 
-pub returns-then-both_sound : goal.returns-then-both_sound
-returns-then-both_sound c = record {
-  answer = read_back w32 _ c.yes_no.type_inv ∙ c.yes_no.ensures.answer ∙ ap yes_no c.is_parent.ensures.parent
-      ∙ asked_answer _ _ _ (sym c.both_sound.ensures.sound ∙ c.if-both_sound.true);
-}
+pub returns-in_err-read : goal.returns-in_err-read
+returns-in_err-read c =
+    let p = err_from_is_err_and c.from_residual.result c.from_residual.ensures.1 in
+    let e = c.in_err-read.ensures.sound in
+    record { answer = p.1 ∙ left_refused c.args.u.now c.args.v.now _ _ e.0 (p.2 ∙ e.1) }
+
+pub returns-in_err-read-2 : goal.returns-in_err-read-2
+returns-in_err-read-2 c =
+    let p = err_from_is_err_and c.from_residual-in_err-read-2.result c.from_residual-in_err-read-2.ensures.1 in
+    let e = c.in_err-read-2.ensures.sound in
+    record { answer = p.1 ∙ right_refused c.args.u.now c.args.v.now _ _ c.in_ok-read.ensures.sound.0 e.0 (p.2 ∙ e.1) }
 
 pub returns : goal.returns
-returns c = record {
-  answer = read_back w32 _ c.signed.type_inv ∙ c.signed.ensures.signed
-      ∙ asked_refused _ _ _ (sym c.both_sound.ensures.sound ∙ c.if-both_sound.false);
-}
+returns c =
+    let u = c.in_ok-read.ensures.sound in
+    let v = c.in_ok-read-2.ensures.sound in
+    record { answer = both_answered c.args.u.now c.args.v.now _ _ u.0 v.0 (c.is_parent.ensures.parent ∙ rw (u.1, v.1) refl) }

@@ -1,7 +1,5 @@
--- `slot` meets its contract: a byte's four digits. Assumes nothing.
-use mathlib.Core.Path.{refl, ◌∙◌}
-use Prim.Native.Nat.{◌/◌, ◌%◌}
-use native.Mathlib.Omega.{arith}
+-- A byte's four digits.
+use Rattle.std.proofs.Common.{◌∙◌, ◌/◌, ◌%◌, arith, refl}
 use lib.ListN.{get_or}
 use Rattle.codes.proofs.SpreadLaws.{slot_spread, shifted_down}
 use Rattle.codes.proofs.spread.slot.Goals as goal

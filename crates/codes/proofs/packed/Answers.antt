@@ -1,0 +1,24 @@
+-- One digit more, and the byte that it goes into.
+use Rattle.std.proofs.Common.{refl, sym, ◌∙◌}
+use Rattle.codes.specs.Field.{field_of}
+use Rattle.codes.proofs.PackerLaws.{pushes_nil}
+use Rattle.codes.proofs.WriteLaws.{next_pushable, next_pushes, next_field}
+use Rattle.codes.proofs.packed.Goals as goal
+
+pub loop-i-init : goal.loop-i-init
+unfolding field_of
+loop-i-init c = record { packer = c.new-packer.ensures.nothing ∙ sym pushes_nil; field = refl }
+
+pub push_in-requires : goal.push_in-requires
+push_in-requires c = record {
+  pushable = next_pushable c.args.digits.now c.loop-i.i c.requires.slots c.loop-i-test.true c.loop-i.packer c.loop-i.invariant.packer;
+}
+
+pub loop-i-preserved : goal.loop-i-preserved
+loop-i-preserved c =
+    let inv = c.loop-i.invariant in
+    let pushed = c.push_in.ensures.pushed in
+    record {
+      packer = next_pushes c.args.digits.now c.loop-i.i c.requires.slots c.loop-i-test.true _ _ inv.packer pushed;
+      field = next_field c.args.digits.now c.loop-i.i c.requires.slots c.loop-i-test.true _ _ _ inv.field inv.packer pushed;
+    }
