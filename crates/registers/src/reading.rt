@@ -20,7 +20,7 @@ use labels::LABEL;
 /// Bytes whose count is 1 to 4,096, whose second number is zero, and in which all counted entries stand.
 #[derive(Clone, Copy)]
 pub struct Reading<'a> {
-    pub(crate) bytes: &'a [u8],
+    pub bytes: &'a [u8],
     pub(crate) count: usize,
     pub ghost sized: { is_sized bytes.now ≡ true },
     pub ghost counted: { count ≡ count_of bytes.now },
