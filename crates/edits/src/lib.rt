@@ -22,7 +22,7 @@ mod search;
 
 use answers::Refusal;
 use codes::Code;
-use registers::{DEEPEST, ENTRY, Found, MOST, end_place, entry_place, parent_place, start_place};
+use registers::{DEEPEST, ENTRY, Entry, Found, MOST, Name, end_place, entry_place, parent_place, start_place};
 
 // Where an entry is put in, with the identity of its target.
 #[derive(Clone, Copy)]
@@ -218,7 +218,13 @@ fn write_in(
         entry_place(i),
         ENTRY * (n - i),
     );
-    registers::write_entry(register, i, identity, tag, start, end, parent);
+    let entry = Entry {
+        name: Name { identity, tag },
+        start,
+        end,
+        parent,
+    };
+    registers::write_entry(register, i, &entry);
     registers::write_header(register, n + 1);
 }
 
