@@ -19,21 +19,22 @@ type Field = [u8; Code::FIELD];
 
 /// What a lent buffer holds before a call: 5a.
 const FILL: u8 = 90;
+
 /// An open side: the empty field.
 const OPEN: Field = [0; Code::FIELD];
-/// Bytes that are no field: a code has an end.
+
+/// Bytes that are no field: digits with no end.
 const UNSOUND: Field = [255; Code::FIELD];
-/// The bytes of the buffers that fields and digits are written to: a few more than they take.
+
+/// The bytes of a buffer for a field or for digits: a few more than the longest takes.
 const FIELD_BUFFER: usize = Code::FIELD + 8;
 
 const DIGITS_BUFFER: usize = Code::LONGEST + 3;
-/// The worked rows of the documents, and the bytes of their register.
+
+/// The worked rows of the documents.
 const WORKED: [u32; 4 * ROW] = [10, 1, 0, 11, 2, 1, 12, 2, 1, 13, 3, 2];
 
-const WORKED_SIZE: usize = FOURTH + ENTRY;
-/// A few bytes more than its register takes.
-const WORKED_BUFFER: usize = WORKED_SIZE + 8;
-/// Where the entries of a register begin.
+/// Where the entries of their register begin, its bytes, and a buffer of a few more.
 const FIRST: usize = HEADER;
 
 const SECOND: usize = FIRST + ENTRY;
@@ -41,12 +42,18 @@ const SECOND: usize = FIRST + ENTRY;
 const THIRD: usize = SECOND + ENTRY;
 
 const FOURTH: usize = THIRD + ENTRY;
-/// The bytes of the largest register.
-const LARGEST: usize = HEADER + ENTRY * MOST;
+
+const WORKED_SIZE: usize = FOURTH + ENTRY;
+
+const WORKED_BUFFER: usize = WORKED_SIZE + 8;
+
 /// Nine rows: a start or an end for each of the 18 numbers of the documents' table of first codes.
 const NINE: [u32; 9 * ROW] = [
     1, 0, 0, 2, 0, 1, 3, 0, 2, 4, 0, 3, 5, 0, 1, 6, 0, 1, 7, 0, 2, 8, 0, 2, 9, 0, 1,
 ];
+
+/// The bytes of the largest register.
+const LARGEST: usize = HEADER + ENTRY * MOST;
 
 fn main(rt: HostRuntime) -> io::Result<()> {
     first_codes(&rt)?;
@@ -160,6 +167,14 @@ struct Lent<'a, T, const N: usize> {
     ghost fits: { room ≤ N },
 }
 
+impl<'a, T, const N: usize> Lent<'a, T, N> {
+    fn new(name: &'a str, input: T, room: usize) -> Self
+        requires { room ≤ N }
+    {
+        Lent { name, input, room }
+    }
+}
+
 /// Makes the same call in each case, and prints what it answers and what the N bytes then hold.
 fn called<T: Copy, const N: usize, F: Fn(T, &mut [u8]) -> Result<usize, Refusal>>(
     rt: &impl Print,
@@ -180,73 +195,21 @@ fn called<T: Copy, const N: usize, F: Fn(T, &mut [u8]) -> Result<usize, Refusal>
 
 fn packing(rt: &impl Print) -> io::Result<()> {
     let cases: [Lent<&[u8], FIELD_BUFFER>; 13] = [
-        Lent {
-            name: "pack 12 in 32",
-            input: &[1, 2],
-            room: 32,
-        },
-        Lent {
-            name: "pack 12 in 40",
-            input: &[1, 2],
-            room: 40,
-        },
-        Lent {
-            name: "pack 12 in 31",
-            input: &[1, 2],
-            room: 31,
-        },
-        Lent {
-            name: "pack 2223 in 32",
-            input: &[2, 2, 2, 3],
-            room: 32,
-        },
-        Lent {
-            name: "pack nothing",
-            input: &[],
-            room: 40,
-        },
-        Lent {
-            name: "pack 1",
-            input: &[1],
-            room: 40,
-        },
-        Lent {
-            name: "pack 231",
-            input: &[2, 3, 1],
-            room: 40,
-        },
-        Lent {
-            name: "pack 202",
-            input: &[2, 0, 2],
-            room: 40,
-        },
-        Lent {
-            name: "pack 242",
-            input: &[2, 4, 2],
-            room: 40,
-        },
-        Lent {
-            name: "pack 24",
-            input: &[2, 4],
-            room: 40,
-        },
-        Lent {
-            name: "pack 1 in 0",
-            input: &[1],
-            room: 0,
-        },
-        Lent {
-            name: "pack 127 digits",
-            input: &[3; 127],
-            room: 40,
-        },
-        Lent {
-            name: "pack 128 digits",
-            input: &[3; 128],
-            room: 40,
-        },
+        Lent::new("pack 12 in 32", &[1, 2], Code::FIELD),
+        Lent::new("pack 12 in 40", &[1, 2], FIELD_BUFFER),
+        Lent::new("pack 12 in 31", &[1, 2], Code::FIELD - 1),
+        Lent::new("pack 2223 in 32", &[2, 2, 2, 3], Code::FIELD),
+        Lent::new("pack nothing", &[], FIELD_BUFFER),
+        Lent::new("pack 1", &[1], FIELD_BUFFER),
+        Lent::new("pack 231", &[2, 3, 1], FIELD_BUFFER),
+        Lent::new("pack 202", &[2, 0, 2], FIELD_BUFFER),
+        Lent::new("pack 242", &[2, 4, 2], FIELD_BUFFER),
+        Lent::new("pack 24", &[2, 4], FIELD_BUFFER),
+        Lent::new("pack 1 in 0", &[1], 0),
+        Lent::new("pack 127 digits", &[3; Code::LONGEST], FIELD_BUFFER),
+        Lent::new("pack 128 digits", &[3; Code::LONGEST + 1], FIELD_BUFFER),
     ];
-    called(rt, &cases, |digits, field| Code::pack(digits, field))
+    called(rt, &cases, Code::pack)
 }
 
 fn unpacking(rt: &impl Print) -> io::Result<()> {
@@ -259,139 +222,47 @@ fn unpacking(rt: &impl Print) -> io::Result<()> {
     let mut last = code;
     last[0] = 0b10_11_01_00;
     let cases: [Lent<&[u8], DIGITS_BUFFER>; 14] = [
-        Lent {
-            name: "unpack 23 in 2",
-            input: &code,
-            room: 2,
-        },
-        Lent {
-            name: "unpack 23 in 9",
-            input: &code,
-            room: 9,
-        },
-        Lent {
-            name: "unpack 23 in 1",
-            input: &code,
-            room: 1,
-        },
-        Lent {
-            name: "unpack empty",
-            input: &OPEN,
-            room: 130,
-        },
-        Lent {
-            name: "unpack empty in 0",
-            input: &OPEN,
-            room: 0,
-        },
-        Lent {
-            name: "unpack last bits set",
-            input: &late,
-            room: 130,
-        },
-        Lent {
-            name: "unpack digit after zero",
-            input: &gone,
-            room: 130,
-        },
-        Lent {
-            name: "unpack last digit 1",
-            input: &last,
-            room: 130,
-        },
-        Lent {
-            name: "unpack 128 digits",
-            input: &UNSOUND,
-            room: 130,
-        },
-        Lent {
-            name: "unpack 127 digits in 127",
-            input: &long,
-            room: 127,
-        },
-        Lent {
-            name: "unpack 127 digits in 126",
-            input: &long,
-            room: 126,
-        },
-        Lent {
-            name: "unpack 31 bytes",
-            input: &[0; 31],
-            room: 130,
-        },
-        Lent {
-            name: "unpack 33 bytes",
-            input: &[0; 33],
-            room: 130,
-        },
-        Lent {
-            name: "unpack no bytes",
-            input: &[],
-            room: 130,
-        },
+        Lent::new("unpack 23 in 2", &code, 2),
+        Lent::new("unpack 23 in 9", &code, 9),
+        Lent::new("unpack 23 in 1", &code, 1),
+        Lent::new("unpack empty", &OPEN, DIGITS_BUFFER),
+        Lent::new("unpack empty in 0", &OPEN, 0),
+        Lent::new("unpack last bits set", &late, DIGITS_BUFFER),
+        Lent::new("unpack digit after zero", &gone, DIGITS_BUFFER),
+        Lent::new("unpack last digit 1", &last, DIGITS_BUFFER),
+        Lent::new("unpack 128 digits", &UNSOUND, DIGITS_BUFFER),
+        Lent::new("unpack 127 digits in 127", &long, Code::LONGEST),
+        Lent::new("unpack 127 digits in 126", &long, Code::LONGEST - 1),
+        Lent::new("unpack 31 bytes", &[0; Code::FIELD - 1], DIGITS_BUFFER),
+        Lent::new("unpack 33 bytes", &[0; Code::FIELD + 1], DIGITS_BUFFER),
+        Lent::new("unpack no bytes", &[], DIGITS_BUFFER),
     ];
-    called(rt, &cases, |field, digits| Code::unpack(field, digits))
+    called(rt, &cases, Code::unpack)
 }
 
 fn betweens(rt: &impl Print) -> io::Result<()> {
     let two = field_of(&[2])?;
     let three = field_of(&[3])?;
     let cases: [Lent<(&[u8], &[u8]), FIELD_BUFFER>; 11] = [
-        Lent {
-            name: "between 2 and 3 in 40",
-            input: (&two, &three),
-            room: 40,
-        },
-        Lent {
-            name: "between 2 and 3 in 32",
-            input: (&two, &three),
-            room: 32,
-        },
-        Lent {
-            name: "between 2 and 3 in 31",
-            input: (&two, &three),
-            room: 31,
-        },
-        Lent {
-            name: "between 3 and 2",
-            input: (&three, &two),
-            room: 40,
-        },
-        Lent {
-            name: "between 2 and 2",
-            input: (&two, &two),
-            room: 40,
-        },
-        Lent {
-            name: "between 3 and 2 in 0",
-            input: (&three, &two),
-            room: 0,
-        },
-        Lent {
-            name: "between unsound and 2",
-            input: (&UNSOUND, &two),
-            room: 40,
-        },
-        Lent {
-            name: "between 2 and unsound",
-            input: (&two, &UNSOUND),
-            room: 40,
-        },
-        Lent {
-            name: "between unsound and open in 0",
-            input: (&UNSOUND, &OPEN),
-            room: 0,
-        },
-        Lent {
-            name: "between 31 bytes and open",
-            input: (&[0; 31], &OPEN),
-            room: 40,
-        },
-        Lent {
-            name: "between open and 33 bytes",
-            input: (&OPEN, &[0; 33]),
-            room: 40,
-        },
+        Lent::new("between 2 and 3 in 40", (&two, &three), FIELD_BUFFER),
+        Lent::new("between 2 and 3 in 32", (&two, &three), Code::FIELD),
+        Lent::new("between 2 and 3 in 31", (&two, &three), Code::FIELD - 1),
+        Lent::new("between 3 and 2", (&three, &two), FIELD_BUFFER),
+        Lent::new("between 2 and 2", (&two, &two), FIELD_BUFFER),
+        Lent::new("between 3 and 2 in 0", (&three, &two), 0),
+        Lent::new("between unsound and 2", (&UNSOUND, &two), FIELD_BUFFER),
+        Lent::new("between 2 and unsound", (&two, &UNSOUND), FIELD_BUFFER),
+        Lent::new("between unsound and open in 0", (&UNSOUND, &OPEN), 0),
+        Lent::new(
+            "between 31 bytes and open",
+            (&[0; Code::FIELD - 1], &OPEN),
+            FIELD_BUFFER,
+        ),
+        Lent::new(
+            "between open and 33 bytes",
+            (&OPEN, &[0; Code::FIELD + 1]),
+            FIELD_BUFFER,
+        ),
     ];
     called(
         rt,
@@ -411,41 +282,37 @@ fn longest(rt: &impl Print) -> io::Result<()> {
     ones[Code::LONGEST - 1] = 2;
     let least = field_of(&ones)?;
     let cases: [Lent<(&[u8], &[u8]), FIELD_BUFFER>; 7] = [
-        Lent {
-            name: "between 126 digits and open",
-            input: (&shorter, &OPEN),
-            room: 40,
-        },
-        Lent {
-            name: "between 127 digits ending in 3 and open",
-            input: (&long, &OPEN),
-            room: 40,
-        },
-        Lent {
-            name: "between 127 digits ending in 2 and open",
-            input: (&low, &OPEN),
-            room: 40,
-        },
-        Lent {
-            name: "between open and 127 digits ending in 2",
-            input: (&OPEN, &least),
-            room: 40,
-        },
-        Lent {
-            name: "between open and 127 digits ending in 3",
-            input: (&OPEN, &long),
-            room: 40,
-        },
-        Lent {
-            name: "between two of 127 digits",
-            input: (&low, &long),
-            room: 40,
-        },
-        Lent {
-            name: "between two of 127 digits in 31",
-            input: (&low, &long),
-            room: 31,
-        },
+        Lent::new(
+            "between 126 digits and open",
+            (&shorter, &OPEN),
+            FIELD_BUFFER,
+        ),
+        Lent::new(
+            "between 127 digits ending in 3 and open",
+            (&long, &OPEN),
+            FIELD_BUFFER,
+        ),
+        Lent::new(
+            "between 127 digits ending in 2 and open",
+            (&low, &OPEN),
+            FIELD_BUFFER,
+        ),
+        Lent::new(
+            "between open and 127 digits ending in 2",
+            (&OPEN, &least),
+            FIELD_BUFFER,
+        ),
+        Lent::new(
+            "between open and 127 digits ending in 3",
+            (&OPEN, &long),
+            FIELD_BUFFER,
+        ),
+        Lent::new("between two of 127 digits", (&low, &long), FIELD_BUFFER),
+        Lent::new(
+            "between two of 127 digits in 31",
+            (&low, &long),
+            Code::FIELD - 1,
+        ),
     ];
     called(
         rt,
@@ -556,124 +423,82 @@ struct Damage<'a> {
     ghost inside: { (room ≤ WORKED_BUFFER) × (at < WORKED_BUFFER) },
 }
 
+impl<'a> Damage<'a> {
+    fn new(name: &'a str, room: usize, at: usize, byte: u8) -> Self
+        requires { (room ≤ WORKED_BUFFER) × (at < WORKED_BUFFER) }
+    {
+        Damage {
+            name,
+            room,
+            at,
+            byte,
+        }
+    }
+}
+
 /// Asks for the places of 13 and 99 in the worked register, sound and with one field or number damaged; the limits of 4,096 entries
 /// and depth 63 are tried in tests/c/register_test.c.
 fn registers_damaged(rt: &impl Print) -> io::Result<()> {
     let damages = [
-        Damage {
-            name: "register as labelled",
-            room: WORKED_SIZE,
-            at: WORKED_SIZE,
-            byte: FILL,
-        },
-        Damage {
-            name: "register in 423 bytes",
-            room: WORKED_SIZE - 1,
-            at: WORKED_SIZE,
-            byte: FILL,
-        },
-        Damage {
-            name: "register of 7 bytes",
-            room: HEADER - 1,
-            at: WORKED_SIZE,
-            byte: FILL,
-        },
-        Damage {
-            name: "count 0",
-            room: WORKED_SIZE,
-            at: COUNT,
-            byte: 0,
-        },
-        Damage {
-            name: "count 3",
-            room: WORKED_SIZE,
-            at: COUNT,
-            byte: 3,
-        },
-        Damage {
-            name: "count 5",
-            room: WORKED_BUFFER,
-            at: COUNT,
-            byte: 5,
-        },
-        Damage {
-            name: "second number 1",
-            room: WORKED_SIZE,
-            at: ZERO,
-            byte: 1,
-        },
-        Damage {
-            name: "identity 0",
-            room: WORKED_SIZE,
-            at: SECOND + IDENTITY,
-            byte: 0,
-        },
-        Damage {
-            name: "identity twice",
-            room: WORKED_SIZE,
-            at: SECOND + IDENTITY,
-            byte: 10,
-        },
-        Damage {
-            name: "start with a hole",
-            room: WORKED_SIZE,
-            at: SECOND + ENTRY_LABEL + START,
-            byte: 0x71,
-        },
-        Damage {
-            name: "start that ends in 1",
-            room: WORKED_SIZE,
-            at: SECOND + ENTRY_LABEL + START,
-            byte: 0x50,
-        },
-        Damage {
-            name: "start not above the sibling's end",
-            room: WORKED_SIZE,
-            at: THIRD + ENTRY_LABEL + START,
-            byte: 0x70,
-        },
-        Damage {
-            name: "end below the last child's end",
-            room: WORKED_SIZE,
-            at: THIRD + ENTRY_LABEL + END,
-            byte: 0xb8,
-        },
-        Damage {
-            name: "end not below the parent's end",
-            room: WORKED_SIZE,
-            at: THIRD + ENTRY_LABEL + END,
-            byte: 0xfc,
-        },
-        Damage {
-            name: "another parent start",
-            room: WORKED_SIZE,
-            at: FOURTH + ENTRY_LABEL + PARENT,
-            byte: 0x60,
-        },
-        Damage {
-            name: "no parent start",
-            room: WORKED_SIZE,
-            at: FOURTH + ENTRY_LABEL + PARENT,
-            byte: 0,
-        },
-        Damage {
-            name: "parent start of the root",
-            room: WORKED_SIZE,
-            at: FIRST + ENTRY_LABEL + PARENT,
-            byte: 0x58,
-        },
-        Damage {
-            name: "second root",
-            room: WORKED_SIZE,
-            at: FIRST + ENTRY_LABEL + END,
-            byte: 0x98,
-        },
-        Damage {
-            name: "tag 77",
-            room: WORKED_SIZE,
-            at: FIRST + TAG,
-            byte: 77,
-        },
+        Damage::new("register as labelled", WORKED_SIZE, WORKED_SIZE, FILL),
+        Damage::new("register in 423 bytes", WORKED_SIZE - 1, WORKED_SIZE, FILL),
+        Damage::new("register of 7 bytes", HEADER - 1, WORKED_SIZE, FILL),
+        Damage::new("count 0", WORKED_SIZE, COUNT, 0),
+        Damage::new("count 3", WORKED_SIZE, COUNT, 3),
+        Damage::new("count 5", WORKED_BUFFER, COUNT, 5),
+        Damage::new("second number 1", WORKED_SIZE, ZERO, 1),
+        Damage::new("identity 0", WORKED_SIZE, SECOND + IDENTITY, 0),
+        Damage::new("identity twice", WORKED_SIZE, SECOND + IDENTITY, 10),
+        Damage::new(
+            "start with a hole",
+            WORKED_SIZE,
+            SECOND + ENTRY_LABEL + START,
+            0x71,
+        ),
+        Damage::new(
+            "start that ends in 1",
+            WORKED_SIZE,
+            SECOND + ENTRY_LABEL + START,
+            0x50,
+        ),
+        Damage::new(
+            "start not above the sibling's end",
+            WORKED_SIZE,
+            THIRD + ENTRY_LABEL + START,
+            0x70,
+        ),
+        Damage::new(
+            "end below the last child's end",
+            WORKED_SIZE,
+            THIRD + ENTRY_LABEL + END,
+            0xb8,
+        ),
+        Damage::new(
+            "end not below the parent's end",
+            WORKED_SIZE,
+            THIRD + ENTRY_LABEL + END,
+            0xfc,
+        ),
+        Damage::new(
+            "another parent start",
+            WORKED_SIZE,
+            FOURTH + ENTRY_LABEL + PARENT,
+            0x60,
+        ),
+        Damage::new(
+            "no parent start",
+            WORKED_SIZE,
+            FOURTH + ENTRY_LABEL + PARENT,
+            0,
+        ),
+        Damage::new(
+            "parent start of the root",
+            WORKED_SIZE,
+            FIRST + ENTRY_LABEL + PARENT,
+            0x58,
+        ),
+        Damage::new("second root", WORKED_SIZE, FIRST + ENTRY_LABEL + END, 0x98),
+        Damage::new("tag 77", WORKED_SIZE, FIRST + TAG, 77),
     ];
     for damage in damages {
         let mut register = [FILL; WORKED_BUFFER];
