@@ -1,23 +1,59 @@
-// Runs the calls on codes and labelling over the documents' figures and over both sides of each limit, and prints what
-// they answer and leave.
+//! Runs the calls on codes and labelling over the documents' figures and over both sides of each limit, and prints what
+//! they answer and leave.
 #![tactic(auto)]
 
-ghost use Rattle.std.specs.Prelude.{◌+◌, ◌<◌, ◌≤◌, length};
+ghost use Rattle.std.specs.Prelude.{◌*◌, ◌^◌, ◌<◌, ◌≤◌, length};
+ghost use Rattle.vectors.specs.declared.TheConstants.{WORKED_BUFFER};
 
+use answers::Refusal;
 use codes::Code;
-use printer::{answered, text};
+use labels::{END, PARENT, START};
+use printer::answered;
+use registers::{COUNT, ENTRY, ENTRY_LABEL, HEADER, IDENTITY, MOST, TAG, ZERO};
+use std::alloc::Global;
 use std::io;
+use tables::ROW;
 
-// What a lent buffer holds before a call: 5a.
+/// A packed field.
+type Field = [u8; Code::FIELD];
+
+/// What a lent buffer holds before a call: 5a.
 const FILL: u8 = 90;
-// An open side: the empty field.
-const OPEN: [u8; 32] = [0; 32];
-// 01's worked rows.
-const WORKED: [u32; 12] = [10, 1, 0, 11, 2, 1, 12, 2, 1, 13, 3, 2];
-// Nine rows: a start or an end for each of the 18 numbers of 001's table 3.
-const NINE: [u32; 27] = [
+
+/// An open side: the empty field.
+const OPEN: Field = [0; Code::FIELD];
+
+/// Bytes that are no field: digits with no end.
+const UNSOUND: Field = [255; Code::FIELD];
+
+/// The bytes of a buffer for a field or for digits: a few more than the longest takes.
+const FIELD_BUFFER: usize = Code::FIELD + 8;
+
+const DIGITS_BUFFER: usize = Code::LONGEST + 3;
+
+/// The worked rows of the documents.
+const WORKED: [u32; 4 * ROW] = [10, 1, 0, 11, 2, 1, 12, 2, 1, 13, 3, 2];
+
+/// Where the entries of their register begin, its bytes, and a buffer of a few more.
+const FIRST: usize = HEADER;
+
+const SECOND: usize = FIRST + ENTRY;
+
+const THIRD: usize = SECOND + ENTRY;
+
+const FOURTH: usize = THIRD + ENTRY;
+
+const WORKED_SIZE: usize = FOURTH + ENTRY;
+
+const WORKED_BUFFER: usize = WORKED_SIZE + 8;
+
+/// Nine rows: a start or an end for each of the 18 numbers of the documents' table of first codes.
+const NINE: [u32; 9 * ROW] = [
     1, 0, 0, 2, 0, 1, 3, 0, 2, 4, 0, 3, 5, 0, 1, 6, 0, 1, 7, 0, 2, 8, 0, 2, 9, 0, 1,
 ];
+
+/// The bytes of the largest register.
+const LARGEST: usize = HEADER + ENTRY * MOST;
 
 fn main(rt: HostRuntime) -> io::Result<()> {
     first_codes(&rt)?;
@@ -26,448 +62,461 @@ fn main(rt: HostRuntime) -> io::Result<()> {
     packing(&rt)?;
     unpacking(&rt)?;
     betweens(&rt)?;
+    longest(&rt)?;
     packer(&rt)?;
-    labelling(&rt)?;
+    labelling(&rt, rt.alloc())?;
     registers_damaged(&rt)
 }
 
-// First labelling. To be compared: the lines of 01's worked rows with those in 01; the nine rows' starts and ends, met along the tour
-// (112 of row 1, 12 of row 2, .., 332 of row 1), with 001's table 3 from top to bottom; the one row's with P1.
+/// What a call answers whose refusal would be a fault of the test.
+fn accepted(answer: Result<usize, Refusal>) -> io::Result<usize> {
+    answer.map_err(|_| io::Error::other("refused where the test needs an answer"))
+}
+
+/// First labelling. To be compared: the lines of the worked rows with those in the documents; the nine rows' starts and ends, met
+/// along the tour (112 of row 1, 12 of row 2, .., 332 of row 1), with the table of first codes from top to bottom; the one row's
+/// with P1.
 fn first_codes(rt: &impl Print) -> io::Result<()> {
-    text(rt, b"01's worked rows:\n")?;
+    println!(rt; "01's worked rows:")?;
     labelled(rt, &WORKED)?;
-    text(rt, b"table 3, on nine rows:\n")?;
+    println!(rt; "table 3, on nine rows:")?;
     labelled(rt, &NINE)?;
-    text(rt, b"P1, one row:\n")?;
+    println!(rt; "P1, one row:")?;
     labelled(rt, &[4294967295, 4294967295, 0])
 }
 
-// The lines of a table's register, and the bytes past it.
-fn labelled(rt: &impl Print, numbers: &[u32]) -> io::Result<()>
-    requires few { length numbers.now ≤ 27 }
+/// The lines of a table's register, and the bytes past it.
+fn labelled(rt: &impl Print, table: &[u32]) -> io::Result<()>
+    requires few { length table.now ≤ 9 * ROW }
 {
-    let mut register = [FILL; 944];
-    let _ = tables::label(numbers, &mut register);
-    let n = numbers.len() / 3;
+    let mut register = [FILL; HEADER + ENTRY * 9];
+    accepted(tables::label(table, &mut register))?;
+    let n = table.len() / ROW;
     printer::lines(rt, &register, n)?;
-    text(rt, b"past them:")?;
-    runs(rt, &register[8 + 104 * n..])
+    print!(rt; "past them:")?;
+    runs(rt, &register[HEADER + ENTRY * n..])
 }
 
-fn middle(left: [u8; 32], right: [u8; 32]) -> [u8; 32] {
-    let mut field = [0u8; 32];
-    let _ = Code::between(&left, &right, &mut field);
-    field
+/// The field of some digits; with none, an open side.
+fn field_of(digits: &[u8]) -> io::Result<Field> {
+    let mut field = OPEN;
+    if !digits.is_empty() {
+        accepted(Code::pack(digits, &mut field))?;
+    }
+    Ok(field)
 }
 
-fn field_of(digits: &[u8]) -> [u8; 32] {
-    let mut field = [0u8; 32];
-    let _ = Code::pack(digits, &mut field);
-    field
-}
-
-// A space and the digits of a field.
-fn code(rt: &impl Print, field: [u8; 32]) -> io::Result<()> {
-    let mut digits = [0u8; 127];
-    text(rt, b" ")?;
-    let Ok(n) = Code::unpack(&field, &mut digits) else {
-        text(rt, b"none")?;
-        return Ok(());
-    };
-    if n <= 127 {
-        print_digits(rt, &digits[..n])?;
+/// P2 to P7.
+fn steps(rt: &impl Print) -> io::Result<()> {
+    let cases: [(&str, &[u8], &[u8]); 6] = [
+        ("P2", &[2], &[3]),
+        ("P3", &[], &[]),
+        ("P4", &[], &[2]),
+        ("P5", &[2], &[2, 3]),
+        ("P6", &[2, 2], &[3]),
+        ("P7", &[2, 3], &[3]),
+    ];
+    for (name, left, right) in cases {
+        print!(rt; "{name}: ")?;
+        step(rt, &field_of(left)?, &field_of(right)?)?;
     }
     Ok(())
 }
 
-// P2 to P7.
-fn steps(rt: &impl Print) -> io::Result<()> {
-    step(rt, b"P2:", &[2], &[3])?;
-    step(rt, b"P3:", &[], &[])?;
-    step(rt, b"P4:", &[], &[2])?;
-    step(rt, b"P5:", &[2], &[2, 3])?;
-    step(rt, b"P6:", &[2, 2], &[3])?;
-    step(rt, b"P7:", &[2, 3], &[3])
+/// The digits of the code between two sides.
+fn step(rt: &impl Print, left: &Field, right: &Field) -> io::Result<()> {
+    let mut field = OPEN;
+    accepted(Code::between(left, right, &mut field))?;
+    let mut digits = [0; Code::LONGEST];
+    let n = accepted(Code::unpack(&field, &mut digits))?;
+    for digit in digits.iter().take(n) {
+        print!(rt; "{digit}")?;
+    }
+    println!(rt)
 }
 
-fn step(rt: &impl Print, name: &[u8], left: &[u8], right: &[u8]) -> io::Result<()> {
-    text(rt, name)?;
-    code(rt, middle(field_of(left), field_of(right)))?;
-    newline(rt)
-}
-
-// P11 to P14.
+/// P11 to P14.
 fn fields(rt: &impl Print) -> io::Result<()> {
-    text(rt, b"P11:")?;
-    runs(rt, &field_of(&[1, 2]))?;
-    text(rt, b"P12:")?;
-    runs(rt, &field_of(&[2, 2, 3]))?;
-    text(rt, b"P13:")?;
-    runs(rt, &field_of(&[2, 2, 2, 2]))?;
-    text(rt, b"P14: ")?;
-    before(rt, field_of(&[1, 2]), field_of(&[1, 2, 2]))?;
-    text(rt, b"112 before 12: ")?;
-    before(rt, field_of(&[1, 1, 2]), field_of(&[1, 2]))?;
-    text(rt, b"12 before 112: ")?;
-    before(rt, field_of(&[1, 2]), field_of(&[1, 1, 2]))
+    let packed: [(&str, &[u8]); 3] = [
+        ("P11", &[1, 2]),
+        ("P12", &[2, 2, 3]),
+        ("P13", &[2, 2, 2, 2]),
+    ];
+    for (name, digits) in packed {
+        print!(rt; "{name}:")?;
+        runs(rt, &field_of(digits)?)?;
+    }
+    let ordered: [(&str, &[u8], &[u8]); 3] = [
+        ("P14", &[1, 2], &[1, 2, 2]),
+        ("112 before 12", &[1, 1, 2], &[1, 2]),
+        ("12 before 112", &[1, 2], &[1, 1, 2]),
+    ];
+    for (name, left, right) in ordered {
+        let before = codes::below(&field_of(left)?, &field_of(right)?);
+        println!(rt; "{name}: {}", if before { "yes" } else { "no" })?;
+    }
+    Ok(())
 }
 
-fn before(rt: &impl Print, left: [u8; 32], right: [u8; 32]) -> io::Result<()> {
-    if codes::below(&left, &right) {
-        text(rt, b"yes\n")?;
-    } else {
-        text(rt, b"no\n")?;
+/// A call's name in the output, what it reads, and how many of N bytes it is lent.
+#[derive(Drop)]
+struct Lent<'a, T, const N: usize> {
+    name: &'a str,
+    input: T,
+    room: usize,
+    ghost fits: { room ≤ N },
+}
+
+impl<'a, T, const N: usize> Lent<'a, T, N> {
+    fn new(name: &'a str, input: T, room: usize) -> Self
+        requires { room ≤ N }
+    {
+        Lent { name, input, room }
+    }
+}
+
+/// Makes the same call in each case, and prints what it answers and what the N bytes then hold.
+fn called<T: Copy, const N: usize, F: Fn(T, &mut [u8]) -> Result<usize, Refusal>>(
+    rt: &impl Print,
+    cases: &[Lent<'_, T, N>],
+    call: F,
+) -> io::Result<()>
+    requires callable { F.IsAlwaysCallable call }
+    requires small { N < 2 ^ 63 }
+{
+    for case in cases {
+        let mut buffer = [FILL; N];
+        print!(rt; "{}:", case.name)?;
+        answered(rt, call(case.input, &mut buffer[..case.room]))?;
+        runs(rt, &buffer)?;
     }
     Ok(())
 }
 
 fn packing(rt: &impl Print) -> io::Result<()> {
-    pack(rt, b"pack 12 in 32:", &[1, 2], 32)?;
-    pack(rt, b"pack 12 in 40:", &[1, 2], 40)?;
-    pack(rt, b"pack 12 in 31:", &[1, 2], 31)?;
-    pack(rt, b"pack 2223 in 32:", &[2, 2, 2, 3], 32)?;
-    pack(rt, b"pack nothing:", &[], 40)?;
-    pack(rt, b"pack 1:", &[1], 40)?;
-    pack(rt, b"pack 231:", &[2, 3, 1], 40)?;
-    pack(rt, b"pack 202:", &[2, 0, 2], 40)?;
-    pack(rt, b"pack 242:", &[2, 4, 2], 40)?;
-    pack(rt, b"pack 24:", &[2, 4], 40)?;
-    pack(rt, b"pack 1 in 0:", &[1], 0)?;
-    pack(rt, b"pack 127 digits:", &[3; 127], 40)?;
-    pack(rt, b"pack 128 digits:", &[3; 128], 40)
-}
-
-fn pack(rt: &impl Print, name: &[u8], digits: &[u8], room: usize) -> io::Result<()>
-    requires fits { room ≤ 40 }
-{
-    text(rt, name)?;
-    pack_in(rt, digits, &mut [FILL; 40], room)
-}
-
-fn pack_in(rt: &impl Print, digits: &[u8], field: &mut [u8], room: usize) -> io::Result<()>
-    requires fits { room ≤ length field.old }
-{
-    answered(rt, Code::pack(digits, &mut field[..room]))?;
-    runs(rt, field)
+    let cases: [Lent<&[u8], FIELD_BUFFER>; 13] = [
+        Lent::new("pack 12 in 32", &[1, 2], Code::FIELD),
+        Lent::new("pack 12 in 40", &[1, 2], FIELD_BUFFER),
+        Lent::new("pack 12 in 31", &[1, 2], Code::FIELD - 1),
+        Lent::new("pack 2223 in 32", &[2, 2, 2, 3], Code::FIELD),
+        Lent::new("pack nothing", &[], FIELD_BUFFER),
+        Lent::new("pack 1", &[1], FIELD_BUFFER),
+        Lent::new("pack 231", &[2, 3, 1], FIELD_BUFFER),
+        Lent::new("pack 202", &[2, 0, 2], FIELD_BUFFER),
+        Lent::new("pack 242", &[2, 4, 2], FIELD_BUFFER),
+        Lent::new("pack 24", &[2, 4], FIELD_BUFFER),
+        Lent::new("pack 1 in 0", &[1], 0),
+        Lent::new("pack 127 digits", &[3; Code::LONGEST], FIELD_BUFFER),
+        Lent::new("pack 128 digits", &[3; Code::LONGEST + 1], FIELD_BUFFER),
+    ];
+    called(rt, &cases, Code::pack)
 }
 
 fn unpacking(rt: &impl Print) -> io::Result<()> {
-    let code = field_of(&[2, 3]);
-    let long = field_of(&[3; 127]);
+    let code = field_of(&[2, 3])?;
+    let long = field_of(&[3; Code::LONGEST])?;
     let mut late = code;
-    late[31] = 2;
+    late[Code::FIELD - 1] = 0b10;
     let mut gone = code;
-    gone[1] = 32;
+    gone[1] = 0b10_00_00;
     let mut last = code;
-    last[0] = 180;
-    unpack(rt, b"unpack 23 in 2:", code, 2)?;
-    unpack(rt, b"unpack 23 in 9:", code, 9)?;
-    unpack(rt, b"unpack 23 in 1:", code, 1)?;
-    unpack(rt, b"unpack empty:", OPEN, 130)?;
-    unpack(rt, b"unpack empty in 0:", OPEN, 0)?;
-    unpack(rt, b"unpack last bits set:", late, 130)?;
-    unpack(rt, b"unpack digit after zero:", gone, 130)?;
-    unpack(rt, b"unpack last digit 1:", last, 130)?;
-    unpack(rt, b"unpack 128 digits:", [255; 32], 130)?;
-    unpack(rt, b"unpack 127 digits in 127:", long, 127)?;
-    unpack(rt, b"unpack 127 digits in 126:", long, 126)?;
-    unpack_bytes(rt, b"unpack 31 bytes:", &[0; 31])?;
-    unpack_bytes(rt, b"unpack 33 bytes:", &[0; 33])?;
-    unpack_bytes(rt, b"unpack no bytes:", &[])
-}
-
-fn unpack(rt: &impl Print, name: &[u8], field: [u8; 32], room: usize) -> io::Result<()>
-    requires fits { room ≤ 130 }
-{
-    text(rt, name)?;
-    unpack_in(rt, &field, &mut [FILL; 130], room)
-}
-
-fn unpack_bytes(rt: &impl Print, name: &[u8], field: &[u8]) -> io::Result<()> {
-    text(rt, name)?;
-    unpack_in(rt, field, &mut [FILL; 130], 130)
-}
-
-fn unpack_in(rt: &impl Print, field: &[u8], digits: &mut [u8], room: usize) -> io::Result<()>
-    requires fits { room ≤ length digits.old }
-{
-    answered(rt, Code::unpack(field, &mut digits[..room]))?;
-    runs(rt, digits)
+    last[0] = 0b10_11_01_00;
+    let cases: [Lent<&[u8], DIGITS_BUFFER>; 14] = [
+        Lent::new("unpack 23 in 2", &code, 2),
+        Lent::new("unpack 23 in 9", &code, 9),
+        Lent::new("unpack 23 in 1", &code, 1),
+        Lent::new("unpack empty", &OPEN, DIGITS_BUFFER),
+        Lent::new("unpack empty in 0", &OPEN, 0),
+        Lent::new("unpack last bits set", &late, DIGITS_BUFFER),
+        Lent::new("unpack digit after zero", &gone, DIGITS_BUFFER),
+        Lent::new("unpack last digit 1", &last, DIGITS_BUFFER),
+        Lent::new("unpack 128 digits", &UNSOUND, DIGITS_BUFFER),
+        Lent::new("unpack 127 digits in 127", &long, Code::LONGEST),
+        Lent::new("unpack 127 digits in 126", &long, Code::LONGEST - 1),
+        Lent::new("unpack 31 bytes", &[0; Code::FIELD - 1], DIGITS_BUFFER),
+        Lent::new("unpack 33 bytes", &[0; Code::FIELD + 1], DIGITS_BUFFER),
+        Lent::new("unpack no bytes", &[], DIGITS_BUFFER),
+    ];
+    called(rt, &cases, Code::unpack)
 }
 
 fn betweens(rt: &impl Print) -> io::Result<()> {
-    let two = field_of(&[2]);
-    let three = field_of(&[3]);
-    let bad = [255; 32];
-    between(rt, b"between 2 and 3 in 40:", two, three, 40)?;
-    between(rt, b"between 2 and 3 in 32:", two, three, 32)?;
-    between(rt, b"between 2 and 3 in 31:", two, three, 31)?;
-    between(rt, b"between 3 and 2:", three, two, 40)?;
-    between(rt, b"between 2 and 2:", two, two, 40)?;
-    between(rt, b"between 3 and 2 in 0:", three, two, 0)?;
-    between(rt, b"between unsound and 2:", bad, two, 40)?;
-    between(rt, b"between 2 and unsound:", two, bad, 40)?;
-    between(rt, b"between unsound and open in 0:", bad, OPEN, 0)?;
-    between_bytes(rt, b"between 31 bytes and open:", &[0; 31], &[0; 32])?;
-    between_bytes(rt, b"between open and 33 bytes:", &[0; 32], &[0; 33])?;
-    longest(rt)
+    let two = field_of(&[2])?;
+    let three = field_of(&[3])?;
+    let cases: [Lent<(&[u8], &[u8]), FIELD_BUFFER>; 11] = [
+        Lent::new("between 2 and 3 in 40", (&two, &three), FIELD_BUFFER),
+        Lent::new("between 2 and 3 in 32", (&two, &three), Code::FIELD),
+        Lent::new("between 2 and 3 in 31", (&two, &three), Code::FIELD - 1),
+        Lent::new("between 3 and 2", (&three, &two), FIELD_BUFFER),
+        Lent::new("between 2 and 2", (&two, &two), FIELD_BUFFER),
+        Lent::new("between 3 and 2 in 0", (&three, &two), 0),
+        Lent::new("between unsound and 2", (&UNSOUND, &two), FIELD_BUFFER),
+        Lent::new("between 2 and unsound", (&two, &UNSOUND), FIELD_BUFFER),
+        Lent::new("between unsound and open in 0", (&UNSOUND, &OPEN), 0),
+        Lent::new(
+            "between 31 bytes and open",
+            (&[0; Code::FIELD - 1], &OPEN),
+            FIELD_BUFFER,
+        ),
+        Lent::new(
+            "between open and 33 bytes",
+            (&OPEN, &[0; Code::FIELD + 1]),
+            FIELD_BUFFER,
+        ),
+    ];
+    called(
+        rt,
+        &cases,
+        |(left, right), field| Code::between(left, right, field),
+    )
 }
 
-// Both sides of 127 digits.
+/// Both sides of 127 digits.
 fn longest(rt: &impl Print) -> io::Result<()> {
-    let long = field_of(&[3; 127]);
-    let mut even = [3; 127];
-    even[126] = 2;
-    let low = field_of(&even);
-    let mut ones = [1; 127];
-    ones[126] = 2;
-    let least = field_of(&ones);
-    between(
+    let shorter = field_of(&[3; Code::LONGEST - 1])?;
+    let long = field_of(&[3; Code::LONGEST])?;
+    let mut even = [3; Code::LONGEST];
+    even[Code::LONGEST - 1] = 2;
+    let low = field_of(&even)?;
+    let mut ones = [1; Code::LONGEST];
+    ones[Code::LONGEST - 1] = 2;
+    let least = field_of(&ones)?;
+    let cases: [Lent<(&[u8], &[u8]), FIELD_BUFFER>; 7] = [
+        Lent::new(
+            "between 126 digits and open",
+            (&shorter, &OPEN),
+            FIELD_BUFFER,
+        ),
+        Lent::new(
+            "between 127 digits ending in 3 and open",
+            (&long, &OPEN),
+            FIELD_BUFFER,
+        ),
+        Lent::new(
+            "between 127 digits ending in 2 and open",
+            (&low, &OPEN),
+            FIELD_BUFFER,
+        ),
+        Lent::new(
+            "between open and 127 digits ending in 2",
+            (&OPEN, &least),
+            FIELD_BUFFER,
+        ),
+        Lent::new(
+            "between open and 127 digits ending in 3",
+            (&OPEN, &long),
+            FIELD_BUFFER,
+        ),
+        Lent::new("between two of 127 digits", (&low, &long), FIELD_BUFFER),
+        Lent::new(
+            "between two of 127 digits in 31",
+            (&low, &long),
+            Code::FIELD - 1,
+        ),
+    ];
+    called(
         rt,
-        b"between 126 digits and open:",
-        field_of(&[3; 126]),
-        OPEN,
-        40,
-    )?;
-    between(
-        rt,
-        b"between 127 digits ending in 3 and open:",
-        long,
-        OPEN,
-        40,
-    )?;
-    between(
-        rt,
-        b"between 127 digits ending in 2 and open:",
-        low,
-        OPEN,
-        40,
-    )?;
-    between(
-        rt,
-        b"between open and 127 digits ending in 2:",
-        OPEN,
-        least,
-        40,
-    )?;
-    between(
-        rt,
-        b"between open and 127 digits ending in 3:",
-        OPEN,
-        long,
-        40,
-    )?;
-    between(rt, b"between two of 127 digits:", low, long, 40)?;
-    between(rt, b"between two of 127 digits in 31:", low, long, 31)
+        &cases,
+        |(left, right), field| Code::between(left, right, field),
+    )
 }
 
-fn between(
-    rt: &impl Print,
-    name: &[u8],
-    left: [u8; 32],
-    right: [u8; 32],
-    room: usize,
-) -> io::Result<()>
-    requires fits { room ≤ 40 }
-{
-    text(rt, name)?;
-    between_in(rt, &left, &right, &mut [FILL; 40], room)
-}
-
-fn between_bytes(rt: &impl Print, name: &[u8], left: &[u8], right: &[u8]) -> io::Result<()> {
-    text(rt, name)?;
-    between_in(rt, left, right, &mut [FILL; 40], 40)
-}
-
-fn between_in(
-    rt: &impl Print,
-    left: &[u8],
-    right: &[u8],
-    field: &mut [u8],
-    room: usize,
-) -> io::Result<()>
-    requires fits { room ≤ length field.old }
-{
-    answered(rt, Code::between(left, right, &mut field[..room]))?;
-    runs(rt, field)
-}
-
-// The packer updated where it stands: 223 again.
+/// The packer updated where it stands: 223 again.
 fn packer(rt: &impl Print) -> io::Result<()> {
     let one = codes::byte_after(0, 0, 2);
     let two = codes::byte_after(one, 1, 2);
     let three = codes::byte_after(two, 2, 3);
-    text(rt, b"packer 223:")?;
+    print!(rt; "packer 223:")?;
     runs(rt, &[one, two, three])
 }
 
-// Labelling: the room of 01's worked rows, each refusal, two reasons at once, and both sides of each limit.
-fn labelling(rt: &impl Print) -> io::Result<()> {
-    table_in(rt, b"table of 01 in 424 bytes:", &WORKED, 424)?;
-    table_in(rt, b"table of 01 in 423 bytes:", &WORKED, 423)?;
-    table_in(rt, b"table with identity 0 in no bytes:", &[0, 1, 0], 0)?;
-    table(rt, b"table of no rows:", &[0; 0])?;
-    table(rt, b"table of four numbers:", &[10, 1, 0, 11])?;
-    table(rt, b"table with a first depth of 1:", &[10, 1, 1])?;
-    table(rt, b"table with two roots:", &[10, 1, 0, 11, 1, 0])?;
-    table(rt, b"table that leaves a depth out:", &[10, 1, 0, 11, 1, 2])?;
-    table(rt, b"table with an identity twice:", &[10, 1, 0, 10, 1, 1])?;
-    table(rt, b"table with identity 0:", &[0, 1, 0])?;
-    table(
+/// Labelling: the room of the worked rows, each refusal, two reasons at once, and both sides of each limit.
+fn labelling(rt: &impl Print, alloc: Global) -> io::Result<()> {
+    let cases: [(&str, &[u32], usize); 12] = [
+        ("table of 01 in 424 bytes", &WORKED, WORKED_SIZE),
+        ("table of 01 in 423 bytes", &WORKED, WORKED_SIZE - 1),
+        ("table with identity 0 in no bytes", &[0, 1, 0], 0),
+        ("table of no rows", &[], LARGEST),
+        ("table of four numbers", &[10, 1, 0, 11], LARGEST),
+        ("table with a first depth of 1", &[10, 1, 1], LARGEST),
+        ("table with two roots", &[10, 1, 0, 11, 1, 0], LARGEST),
+        (
+            "table that leaves a depth out",
+            &[10, 1, 0, 11, 1, 2],
+            LARGEST,
+        ),
+        (
+            "table with an identity twice",
+            &[10, 1, 0, 10, 1, 1],
+            LARGEST,
+        ),
+        ("table with identity 0", &[0, 1, 0], LARGEST),
+        (
+            "table with identity 0 at a first depth of 1",
+            &[0, 1, 1],
+            LARGEST,
+        ),
+        (
+            "table with an identity twice above a depth left out",
+            &[10, 1, 0, 10, 1, 1, 11, 1, 9],
+            LARGEST,
+        ),
+    ];
+    for (name, table, room) in cases {
+        label(rt, alloc, name, table, room)?;
+    }
+    table_of(rt, alloc, "table of 4096 rows", 4096, |row| row.min(1))?;
+    table_of(rt, alloc, "table of 4097 rows", 4097, |row| row.min(1))?;
+    table_of(
         rt,
-        b"table with identity 0 at a first depth of 1:",
-        &[0, 1, 1],
+        alloc,
+        "table of 64 rows, each one deeper",
+        64,
+        |row| row,
     )?;
-    table(
+    table_of(
         rt,
-        b"table with an identity twice above a depth left out:",
-        &[10, 1, 0, 10, 1, 1, 11, 1, 9],
-    )?;
-    table_of(rt, b"table of 4096 rows:", 4096, false)?;
-    table_of(rt, b"table of 4097 rows:", 4097, false)?;
-    table_of(rt, b"table of 64 rows, each one deeper:", 64, true)?;
-    table_of(rt, b"table of 65 rows, each one deeper:", 65, true)
+        alloc,
+        "table of 65 rows, each one deeper",
+        65,
+        |row| row,
+    )
 }
 
-// A table of n rows, each a child of the first or each one deeper than the row above.
-fn table_of(rt: &impl Print, name: &[u8], n: u32, deeper: bool) -> io::Result<()>
-    requires few { n ≤ 4097 }
+/// Labels a table of n rows, of which each has the depth that is given for it.
+fn table_of<F: Fn(u32) -> u32>(
+    rt: &impl Print,
+    alloc: Global,
+    name: &str,
+    n: u32,
+    depth: F,
+) -> io::Result<()>
+    requires { F.IsAlwaysCallable depth }
 {
-    let mut numbers = [0u32; 12291];
-    let mut row = 0;
-    while row < n {
-        let at = 3 * row as usize;
-        numbers[at] = row + 1;
-        numbers[at + 2] = depth(row, deeper);
-        row += 1;
+    let mut table = Vec::new(alloc);
+    for row in 0..n {
+        table.extend_from_slice(&[row + 1, 0, depth(row)])?;
     }
-    table(rt, name, &numbers[..3 * n as usize])
+    label(rt, alloc, name, &table, LARGEST)
 }
 
-fn depth(row: u32, deeper: bool) -> u32 {
-    if deeper {
-        return row;
+/// Labels a table into a register of some bytes.
+fn label(rt: &impl Print, alloc: Global, name: &str, table: &[u32], room: usize) -> io::Result<()> {
+    let mut register = vec![in alloc; FILL; room]?;
+    match tables::label(table, &mut register) {
+        Ok(n) => println!(rt; "{name}: bytes {n}"),
+        Err(refusal) => println!(rt;
+            "{name}: refused {} row {}",
+            refusal.number(),
+            refusal.row()
+        ),
     }
-    if row == 0 {
-        return 0;
-    }
-    1
 }
 
-// Labels a table into a register that has room enough.
-fn table(rt: &impl Print, name: &[u8], numbers: &[u32]) -> io::Result<()> {
-    table_in(rt, name, numbers, 425992)
+/// A byte of the worked register that is set, and how many bytes of the register are read.
+#[derive(Clone, Copy)]
+struct Damage<'a> {
+    name: &'a str,
+    room: usize,
+    at: usize,
+    byte: u8,
+    ghost inside: { (room ≤ WORKED_BUFFER) × (at < WORKED_BUFFER) },
 }
 
-// Labels a table into a register of some bytes.
-fn table_in(rt: &impl Print, name: &[u8], numbers: &[u32], room: usize) -> io::Result<()>
-    requires room { room ≤ 425992 }
-{
-    let mut register = [FILL; 425992];
-    text(rt, name)?;
-    match tables::label(numbers, &mut register[..room]) {
-        Ok(n) => {
-            text(rt, b" bytes ")?;
-            print!(rt; "{}", n as u64)?;
-        }
-        Err(refusal) => {
-            text(rt, b" refused ")?;
-            print!(rt; "{}", refusal.number() as u64)?;
-            text(rt, b" row ")?;
-            print!(rt; "{}", refusal.row() as u64)?;
+impl<'a> Damage<'a> {
+    fn new(name: &'a str, room: usize, at: usize, byte: u8) -> Self
+        requires { (room ≤ WORKED_BUFFER) × (at < WORKED_BUFFER) }
+    {
+        Damage {
+            name,
+            room,
+            at,
+            byte,
         }
     }
-    newline(rt)
 }
 
-// 01's worked register, sound and with one field or number damaged; the limits of 4,096 entries and depth 63 are tried in
-// tests/c/register_test.c.
+/// Asks for the places of 13 and 99 in the worked register, sound and with one field or number damaged; the limits of 4,096 entries
+/// and depth 63 are tried in tests/c/register_test.c.
 fn registers_damaged(rt: &impl Print) -> io::Result<()> {
-    damaged(rt, b"register as labelled:", 424, 424, 90)?;
-    damaged(rt, b"register in 423 bytes:", 423, 424, 90)?;
-    damaged(rt, b"register of 7 bytes:", 7, 424, 90)?;
-    damaged(rt, b"count 0:", 424, 0, 0)?;
-    damaged(rt, b"count 3:", 424, 0, 3)?;
-    damaged(rt, b"count 5:", 432, 0, 5)?;
-    damaged(rt, b"second number 1:", 424, 4, 1)?;
-    damaged(rt, b"identity 0:", 424, 112, 0)?;
-    damaged(rt, b"identity twice:", 424, 112, 10)?;
-    damaged(rt, b"start with a hole:", 424, 120, 0x71)?;
-    damaged(rt, b"start that ends in 1:", 424, 120, 0x50)?;
-    damaged(rt, b"start not above the sibling's end:", 424, 224, 0x70)?;
-    damaged(rt, b"end below the last child's end:", 424, 256, 0xb8)?;
-    damaged(rt, b"end not below the parent's end:", 424, 256, 0xfc)?;
-    damaged(rt, b"another parent start:", 424, 392, 0x60)?;
-    damaged(rt, b"no parent start:", 424, 392, 0)?;
-    damaged(rt, b"parent start of the root:", 424, 80, 0x58)?;
-    damaged(rt, b"second root:", 424, 48, 0x98)?;
-    damaged(rt, b"tag 77:", 424, 12, 77)
-}
-
-// Asks for the places of 13 and 99 after a byte was set.
-fn damaged(rt: &impl Print, name: &[u8], room: usize, at: usize, byte: u8) -> io::Result<()>
-    requires inside { (room ≤ 432) × (at < 432) }
-{
-    let mut register = [FILL; 432];
-    let _ = tables::label(&WORKED, &mut register);
-    register[at] = byte;
-    asked(rt, name, &register[..room])
-}
-
-fn asked(rt: &impl Print, name: &[u8], register: &[u8]) -> io::Result<()> {
-    text(rt, name)?;
-    answered(rt, registers::place(register, 13))?;
-    answered(rt, registers::place(register, 99))?;
-    newline(rt)
-}
-
-fn wide(byte: u8) -> u64 {
-    byte as u64
-}
-
-fn print_digits(rt: &impl Print, digits: &[u8]) -> io::Result<()> {
-    let mut i = 0;
-    while i < digits.len() {
-        print!(rt; "{}", wide(digits[i]))?;
-        i += 1;
+    let damages = [
+        Damage::new("register as labelled", WORKED_SIZE, WORKED_SIZE, FILL),
+        Damage::new("register in 423 bytes", WORKED_SIZE - 1, WORKED_SIZE, FILL),
+        Damage::new("register of 7 bytes", HEADER - 1, WORKED_SIZE, FILL),
+        Damage::new("count 0", WORKED_SIZE, COUNT, 0),
+        Damage::new("count 3", WORKED_SIZE, COUNT, 3),
+        Damage::new("count 5", WORKED_BUFFER, COUNT, 5),
+        Damage::new("second number 1", WORKED_SIZE, ZERO, 1),
+        Damage::new("identity 0", WORKED_SIZE, SECOND + IDENTITY, 0),
+        Damage::new("identity twice", WORKED_SIZE, SECOND + IDENTITY, 10),
+        Damage::new(
+            "start with a hole",
+            WORKED_SIZE,
+            SECOND + ENTRY_LABEL + START,
+            0x71,
+        ),
+        Damage::new(
+            "start that ends in 1",
+            WORKED_SIZE,
+            SECOND + ENTRY_LABEL + START,
+            0x50,
+        ),
+        Damage::new(
+            "start not above the sibling's end",
+            WORKED_SIZE,
+            THIRD + ENTRY_LABEL + START,
+            0x70,
+        ),
+        Damage::new(
+            "end below the last child's end",
+            WORKED_SIZE,
+            THIRD + ENTRY_LABEL + END,
+            0xb8,
+        ),
+        Damage::new(
+            "end not below the parent's end",
+            WORKED_SIZE,
+            THIRD + ENTRY_LABEL + END,
+            0xfc,
+        ),
+        Damage::new(
+            "another parent start",
+            WORKED_SIZE,
+            FOURTH + ENTRY_LABEL + PARENT,
+            0x60,
+        ),
+        Damage::new(
+            "no parent start",
+            WORKED_SIZE,
+            FOURTH + ENTRY_LABEL + PARENT,
+            0,
+        ),
+        Damage::new(
+            "parent start of the root",
+            WORKED_SIZE,
+            FIRST + ENTRY_LABEL + PARENT,
+            0x58,
+        ),
+        Damage::new("second root", WORKED_SIZE, FIRST + ENTRY_LABEL + END, 0x98),
+        Damage::new("tag 77", WORKED_SIZE, FIRST + TAG, 77),
+    ];
+    for damage in damages {
+        let mut register = [FILL; WORKED_BUFFER];
+        accepted(tables::label(&WORKED, &mut register))?;
+        register[damage.at] = damage.byte;
+        print!(rt; "{}:", damage.name)?;
+        for identity in [13, 99] {
+            answered(rt, registers::place(&register[..damage.room], identity))?;
+        }
+        println!(rt)?;
     }
     Ok(())
 }
 
-// All bytes as runs of equal ones, each in hexadecimal with its length, and a line end.
+/// All bytes as runs of equal ones, each in hexadecimal with its length, and a line end.
 fn runs(rt: &impl Print, bytes: &[u8]) -> io::Result<()> {
-    let mut i = 0;
-    while i < bytes.len() {
-        let n = run(bytes, i);
-        times(rt, wide(bytes[i]), n as u64)?;
-        i += n;
+    for run in bytes.chunk_by(|a, b| a == b) {
+        print!(rt; " {:02x}*{}", run[0], run.len())?;
     }
-    newline(rt)
-}
-
-// A byte in hexadecimal, and how often.
-fn times(rt: &impl Print, byte: u64, n: u64) -> io::Result<()> {
-    text(rt, b" ")?;
-    print!(rt; "{byte:02x}")?;
-    text(rt, b"*")?;
-    print!(rt; "{n}")
-}
-
-fn newline(rt: &impl Print) -> io::Result<()> {
-    text(rt, b"\n")
-}
-
-// How many bytes from a place on are equal to the one there.
-fn run(bytes: &[u8], at: usize) -> usize
-    requires inside { at < length bytes.now }
-    ensures inside { (0 < result) × (at + result ≤ length bytes.now) }
-{
-    let mut n = 1;
-    while n < bytes.len() - at {
-        if bytes[at + n] != bytes[at] {
-            return n;
-        }
-        n += 1;
-    }
-    n
+    println!(rt)
 }
