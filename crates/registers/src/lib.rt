@@ -144,7 +144,7 @@ fn new_identities(register: &[u8], n: usize) -> bool
         all[i] = identity(register, i);
         i += 1;
     }
-    identities::all_new(&all, n)
+    identities::all_new(&all[..n])
 }
 
 fn identity(register: &[u8], i: usize) -> u32
