@@ -83,7 +83,7 @@ impl<'a> Reading<'a> {
         for i in 0..self.count {
             all[i] = self.identity(i);
         }
-        identities::all_new(&all, self.count)
+        identities::all_new(&all[..self.count])
     }
 
     /// The label of entry i is sound.

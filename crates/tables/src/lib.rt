@@ -11,7 +11,7 @@ mod walk;
 
 use answers::Refusal;
 use codes::Code;
-use identities::PLACES;
+use identities::Used;
 use registers::{DEEPEST, ENTRY, HEADER, MOST};
 use walk::Cursor;
 
@@ -82,13 +82,13 @@ fn check_rows(table: &[u32], n: usize) -> Checked
     requires whole { (length table.now ≡ row_size * n) × (n ≤ most_rows) }
     ensures checked { result ≡ rows_checked (rows_of table.now) }
 {
-    let mut places = [0u32; PLACES];
+    let mut used = Used::new();
     let mut i = 0;
     while i < n {
         if !row_depth(table, i) {
             return Checked::Bad(Refusal::RowDepth(i));
         }
-        if !identities::new_at(table, ROW, i, &mut places) {
+        if !used.new_at(table, ROW, i) {
             return Checked::Bad(Refusal::RowIdentity(i));
         }
         i += 1;

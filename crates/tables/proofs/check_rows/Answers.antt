@@ -1,15 +1,11 @@
--- `check_rows` meets its contract. The loop's invariant: the rows from row i on give what all rows give, and the places hold the
+-- `check_rows` meets its contract. The loop's invariant: the rows from row i on give what all rows give, and used are the
 -- identities above row i. Assumes nothing.
 use mathlib.Core.Path.{◌≡◌, refl, sym, ap, ◌∙◌}
 use native.Mathlib.Numerals.{add-one}
 use native.Mathlib.Omega.{arith}
 use Rattle.tables.specs.Rows.{checked_from}
 use Rattle.tables.proofs.RuleLaws.{row_deep, row_used, row_right, checked_end}
-use Rattle.identities.proofs.IdentityLaws.{holds_none}
 use Rattle.tables.proofs.check_rows.Goals as goal
-
-pub loop-i-init : goal.loop-i-init
-loop-i-init c = (omega arith, refl, holds_none)
 
 pub returns-then-not-row_depth : goal.returns-then-not-row_depth
 returns-then-not-row_depth c = record {

@@ -1,4 +1,4 @@
--- `check_rows` meets its contract. The loop's invariant: the rows from row i on give what all rows give, and the places hold the
+-- `check_rows` meets its contract. The loop's invariant: the rows from row i on give what all rows give, and used are the
 -- identities above row i. Assumes nothing.
 use mathlib.Core.Path.{◌≡◌}
 use Prim.Native.Nat.{◌-◌, ◌≤◌}
@@ -10,7 +10,7 @@ use Rattle.tables.proofs.check_rows.Given as goal
 
 abbrev pub invariant-loop-i : goal.invariant-loop-i
 invariant-loop-i l =
-    (l.i ≤ l.n) × (rows_checked (rows_of l.table) ≡ checked_from l.table l.i) × Holds l.places (above l.table l.i)
+    (l.i ≤ l.n) × (rows_checked (rows_of l.table) ≡ checked_from l.table l.i) × Holds l.used (above l.table l.i)
 
 abbrev pub decreases-loop-i : goal.decreases-loop-i
 decreases-loop-i l = l.n - l.i
