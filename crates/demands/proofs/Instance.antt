@@ -16,7 +16,7 @@ use Rattle.numbers.specs.Bytes.{put}
 use Rattle.codes.specs.Field.{field_of}
 use Rattle.codes.specs.Reading.{read}
 use Rattle.labels.specs.Label.{label_of, is_sound}
-use Rattle.labels.specs.Questions.{asked, above_answer}
+use Rattle.labels.specs.Questions.{asked, answered, above_answer}
 use Rattle.trees.specs.Forest.{nil, node}
 use Rattle.trees.specs.Labelled.{Name}
 use Rattle.trees.specs.Edit.{leaf}
@@ -103,5 +103,5 @@ pub record Computed : Type 0 where
 
 pub computed : Computed
 unfolding label_outcome checked_of rows_from rows_of thirds_deep field_of entry_bytes put read is_sound walk_row entry_at line_at is_tree
-    is_register_sound tree_of inserted_bytes deleted_bytes insert_outcome delete_outcome asked label_of
+    is_register_sound tree_of inserted_bytes deleted_bytes insert_outcome delete_outcome asked answered label_of
 computed = record { run_answers = refl; run_tree = refl; run_above = refl; run_not_above = refl }
