@@ -168,7 +168,12 @@ struct Lent<'a, T, const N: usize> {
 }
 
 impl<'a, T, const N: usize> Lent<'a, T, N> {
-    fn new(name: &'a str, input: T, room: usize) -> Self
+    /// All N bytes.
+    fn new(name: &'a str, input: T) -> Self {
+        Lent::within(name, input, N)
+    }
+
+    fn within(name: &'a str, input: T, room: usize) -> Self
         requires { room ≤ N }
     {
         Lent { name, input, room }
@@ -195,19 +200,19 @@ fn called<T: Copy, const N: usize, F: Fn(T, &mut [u8]) -> Result<usize, Refusal>
 
 fn packing(rt: &impl Print) -> io::Result<()> {
     let cases: [Lent<&[u8], FIELD_BUFFER>; 13] = [
-        Lent::new("pack 12 in 32", &[1, 2], Code::FIELD),
-        Lent::new("pack 12 in 40", &[1, 2], FIELD_BUFFER),
-        Lent::new("pack 12 in 31", &[1, 2], Code::FIELD - 1),
-        Lent::new("pack 2223 in 32", &[2, 2, 2, 3], Code::FIELD),
-        Lent::new("pack nothing", &[], FIELD_BUFFER),
-        Lent::new("pack 1", &[1], FIELD_BUFFER),
-        Lent::new("pack 231", &[2, 3, 1], FIELD_BUFFER),
-        Lent::new("pack 202", &[2, 0, 2], FIELD_BUFFER),
-        Lent::new("pack 242", &[2, 4, 2], FIELD_BUFFER),
-        Lent::new("pack 24", &[2, 4], FIELD_BUFFER),
-        Lent::new("pack 1 in 0", &[1], 0),
-        Lent::new("pack 127 digits", &[3; Code::LONGEST], FIELD_BUFFER),
-        Lent::new("pack 128 digits", &[3; Code::LONGEST + 1], FIELD_BUFFER),
+        Lent::within("pack 12 in 32", &[1, 2], Code::FIELD),
+        Lent::new("pack 12 in 40", &[1, 2]),
+        Lent::within("pack 12 in 31", &[1, 2], Code::FIELD - 1),
+        Lent::within("pack 2223 in 32", &[2, 2, 2, 3], Code::FIELD),
+        Lent::new("pack nothing", &[]),
+        Lent::new("pack 1", &[1]),
+        Lent::new("pack 231", &[2, 3, 1]),
+        Lent::new("pack 202", &[2, 0, 2]),
+        Lent::new("pack 242", &[2, 4, 2]),
+        Lent::new("pack 24", &[2, 4]),
+        Lent::within("pack 1 in 0", &[1], 0),
+        Lent::new("pack 127 digits", &[3; Code::LONGEST]),
+        Lent::new("pack 128 digits", &[3; Code::LONGEST + 1]),
     ];
     called(rt, &cases, Code::pack)
 }
@@ -222,20 +227,20 @@ fn unpacking(rt: &impl Print) -> io::Result<()> {
     let mut last = code;
     last[0] = 0b10_11_01_00;
     let cases: [Lent<&[u8], DIGITS_BUFFER>; 14] = [
-        Lent::new("unpack 23 in 2", &code, 2),
-        Lent::new("unpack 23 in 9", &code, 9),
-        Lent::new("unpack 23 in 1", &code, 1),
-        Lent::new("unpack empty", &OPEN, DIGITS_BUFFER),
-        Lent::new("unpack empty in 0", &OPEN, 0),
-        Lent::new("unpack last bits set", &late, DIGITS_BUFFER),
-        Lent::new("unpack digit after zero", &gone, DIGITS_BUFFER),
-        Lent::new("unpack last digit 1", &last, DIGITS_BUFFER),
-        Lent::new("unpack 128 digits", &UNSOUND, DIGITS_BUFFER),
-        Lent::new("unpack 127 digits in 127", &long, Code::LONGEST),
-        Lent::new("unpack 127 digits in 126", &long, Code::LONGEST - 1),
-        Lent::new("unpack 31 bytes", &[0; Code::FIELD - 1], DIGITS_BUFFER),
-        Lent::new("unpack 33 bytes", &[0; Code::FIELD + 1], DIGITS_BUFFER),
-        Lent::new("unpack no bytes", &[], DIGITS_BUFFER),
+        Lent::within("unpack 23 in 2", &code, 2),
+        Lent::within("unpack 23 in 9", &code, 9),
+        Lent::within("unpack 23 in 1", &code, 1),
+        Lent::new("unpack empty", &OPEN),
+        Lent::within("unpack empty in 0", &OPEN, 0),
+        Lent::new("unpack last bits set", &late),
+        Lent::new("unpack digit after zero", &gone),
+        Lent::new("unpack last digit 1", &last),
+        Lent::new("unpack 128 digits", &UNSOUND),
+        Lent::within("unpack 127 digits in 127", &long, Code::LONGEST),
+        Lent::within("unpack 127 digits in 126", &long, Code::LONGEST - 1),
+        Lent::new("unpack 31 bytes", &[0; Code::FIELD - 1]),
+        Lent::new("unpack 33 bytes", &[0; Code::FIELD + 1]),
+        Lent::new("unpack no bytes", &[]),
     ];
     called(rt, &cases, Code::unpack)
 }
@@ -244,25 +249,17 @@ fn betweens(rt: &impl Print) -> io::Result<()> {
     let two = field_of(&[2])?;
     let three = field_of(&[3])?;
     let cases: [Lent<(&[u8], &[u8]), FIELD_BUFFER>; 11] = [
-        Lent::new("between 2 and 3 in 40", (&two, &three), FIELD_BUFFER),
-        Lent::new("between 2 and 3 in 32", (&two, &three), Code::FIELD),
-        Lent::new("between 2 and 3 in 31", (&two, &three), Code::FIELD - 1),
-        Lent::new("between 3 and 2", (&three, &two), FIELD_BUFFER),
-        Lent::new("between 2 and 2", (&two, &two), FIELD_BUFFER),
-        Lent::new("between 3 and 2 in 0", (&three, &two), 0),
-        Lent::new("between unsound and 2", (&UNSOUND, &two), FIELD_BUFFER),
-        Lent::new("between 2 and unsound", (&two, &UNSOUND), FIELD_BUFFER),
-        Lent::new("between unsound and open in 0", (&UNSOUND, &OPEN), 0),
-        Lent::new(
-            "between 31 bytes and open",
-            (&[0; Code::FIELD - 1], &OPEN),
-            FIELD_BUFFER,
-        ),
-        Lent::new(
-            "between open and 33 bytes",
-            (&OPEN, &[0; Code::FIELD + 1]),
-            FIELD_BUFFER,
-        ),
+        Lent::new("between 2 and 3 in 40", (&two, &three)),
+        Lent::within("between 2 and 3 in 32", (&two, &three), Code::FIELD),
+        Lent::within("between 2 and 3 in 31", (&two, &three), Code::FIELD - 1),
+        Lent::new("between 3 and 2", (&three, &two)),
+        Lent::new("between 2 and 2", (&two, &two)),
+        Lent::within("between 3 and 2 in 0", (&three, &two), 0),
+        Lent::new("between unsound and 2", (&UNSOUND, &two)),
+        Lent::new("between 2 and unsound", (&two, &UNSOUND)),
+        Lent::within("between unsound and open in 0", (&UNSOUND, &OPEN), 0),
+        Lent::new("between 31 bytes and open", (&[0; Code::FIELD - 1], &OPEN)),
+        Lent::new("between open and 33 bytes", (&OPEN, &[0; Code::FIELD + 1])),
     ];
     called(
         rt,
@@ -282,33 +279,13 @@ fn longest(rt: &impl Print) -> io::Result<()> {
     ones[Code::LONGEST - 1] = 2;
     let least = field_of(&ones)?;
     let cases: [Lent<(&[u8], &[u8]), FIELD_BUFFER>; 7] = [
-        Lent::new(
-            "between 126 digits and open",
-            (&shorter, &OPEN),
-            FIELD_BUFFER,
-        ),
-        Lent::new(
-            "between 127 digits ending in 3 and open",
-            (&long, &OPEN),
-            FIELD_BUFFER,
-        ),
-        Lent::new(
-            "between 127 digits ending in 2 and open",
-            (&low, &OPEN),
-            FIELD_BUFFER,
-        ),
-        Lent::new(
-            "between open and 127 digits ending in 2",
-            (&OPEN, &least),
-            FIELD_BUFFER,
-        ),
-        Lent::new(
-            "between open and 127 digits ending in 3",
-            (&OPEN, &long),
-            FIELD_BUFFER,
-        ),
-        Lent::new("between two of 127 digits", (&low, &long), FIELD_BUFFER),
-        Lent::new(
+        Lent::new("between 126 digits and open", (&shorter, &OPEN)),
+        Lent::new("between 127 digits ending in 3 and open", (&long, &OPEN)),
+        Lent::new("between 127 digits ending in 2 and open", (&low, &OPEN)),
+        Lent::new("between open and 127 digits ending in 2", (&OPEN, &least)),
+        Lent::new("between open and 127 digits ending in 3", (&OPEN, &long)),
+        Lent::new("between two of 127 digits", (&low, &long)),
+        Lent::within(
             "between two of 127 digits in 31",
             (&low, &long),
             Code::FIELD - 1,
@@ -424,7 +401,14 @@ struct Damage<'a> {
 }
 
 impl<'a> Damage<'a> {
-    fn new(name: &'a str, room: usize, at: usize, byte: u8) -> Self
+    /// The register is read whole.
+    fn new(name: &'a str, at: usize, byte: u8) -> Self
+        requires { at < WORKED_BUFFER }
+    {
+        Damage::within(name, WORKED_SIZE, at, byte)
+    }
+
+    fn within(name: &'a str, room: usize, at: usize, byte: u8) -> Self
         requires { (room ≤ WORKED_BUFFER) × (at < WORKED_BUFFER) }
     {
         Damage {
@@ -440,65 +424,41 @@ impl<'a> Damage<'a> {
 /// and depth 63 are tried in tests/c/register_test.c.
 fn registers_damaged(rt: &impl Print) -> io::Result<()> {
     let damages = [
-        Damage::new("register as labelled", WORKED_SIZE, WORKED_SIZE, FILL),
-        Damage::new("register in 423 bytes", WORKED_SIZE - 1, WORKED_SIZE, FILL),
-        Damage::new("register of 7 bytes", HEADER - 1, WORKED_SIZE, FILL),
-        Damage::new("count 0", WORKED_SIZE, COUNT, 0),
-        Damage::new("count 3", WORKED_SIZE, COUNT, 3),
-        Damage::new("count 5", WORKED_BUFFER, COUNT, 5),
-        Damage::new("second number 1", WORKED_SIZE, ZERO, 1),
-        Damage::new("identity 0", WORKED_SIZE, SECOND + IDENTITY, 0),
-        Damage::new("identity twice", WORKED_SIZE, SECOND + IDENTITY, 10),
-        Damage::new(
-            "start with a hole",
-            WORKED_SIZE,
-            SECOND + ENTRY_LABEL + START,
-            0x71,
-        ),
-        Damage::new(
-            "start that ends in 1",
-            WORKED_SIZE,
-            SECOND + ENTRY_LABEL + START,
-            0x50,
-        ),
+        Damage::new("register as labelled", WORKED_SIZE, FILL),
+        Damage::within("register in 423 bytes", WORKED_SIZE - 1, WORKED_SIZE, FILL),
+        Damage::within("register of 7 bytes", HEADER - 1, WORKED_SIZE, FILL),
+        Damage::new("count 0", COUNT, 0),
+        Damage::new("count 3", COUNT, 3),
+        Damage::within("count 5", WORKED_BUFFER, COUNT, 5),
+        Damage::new("second number 1", ZERO, 1),
+        Damage::new("identity 0", SECOND + IDENTITY, 0),
+        Damage::new("identity twice", SECOND + IDENTITY, 10),
+        Damage::new("start with a hole", SECOND + ENTRY_LABEL + START, 0x71),
+        Damage::new("start that ends in 1", SECOND + ENTRY_LABEL + START, 0x50),
         Damage::new(
             "start not above the sibling's end",
-            WORKED_SIZE,
             THIRD + ENTRY_LABEL + START,
             0x70,
         ),
         Damage::new(
             "end below the last child's end",
-            WORKED_SIZE,
             THIRD + ENTRY_LABEL + END,
             0xb8,
         ),
         Damage::new(
             "end not below the parent's end",
-            WORKED_SIZE,
             THIRD + ENTRY_LABEL + END,
             0xfc,
         ),
-        Damage::new(
-            "another parent start",
-            WORKED_SIZE,
-            FOURTH + ENTRY_LABEL + PARENT,
-            0x60,
-        ),
-        Damage::new(
-            "no parent start",
-            WORKED_SIZE,
-            FOURTH + ENTRY_LABEL + PARENT,
-            0,
-        ),
+        Damage::new("another parent start", FOURTH + ENTRY_LABEL + PARENT, 0x60),
+        Damage::new("no parent start", FOURTH + ENTRY_LABEL + PARENT, 0),
         Damage::new(
             "parent start of the root",
-            WORKED_SIZE,
             FIRST + ENTRY_LABEL + PARENT,
             0x58,
         ),
-        Damage::new("second root", WORKED_SIZE, FIRST + ENTRY_LABEL + END, 0x98),
-        Damage::new("tag 77", WORKED_SIZE, FIRST + TAG, 77),
+        Damage::new("second root", FIRST + ENTRY_LABEL + END, 0x98),
+        Damage::new("tag 77", FIRST + TAG, 77),
     ];
     for damage in damages {
         let mut register = [FILL; WORKED_BUFFER];
