@@ -6,7 +6,7 @@ use mathlib.Core.List.{List, [], ◌∷◌, ◌++◌, append_assoc}
 use Prim.Native.Nat.{ℕ, ◌+◌, ◌-◌, ◌≤◌, ◌<◌}
 use native.Mathlib.Omega.{arith}
 use lib.Dec.{eqb, ltb}
-use lib.ListN.{length, length-append, length-set}
+use lib.ListN.{length, set, length-append, length-set}
 use borrow.Author.Tests.{ltb-true, eqb-true, eqb-false, ne_eqb, lt-ltb, le-ltb}
 use Rattle.digits.specs.Lists.{All}
 use Rattle.digits.specs.Order.{Digits}
@@ -17,9 +17,10 @@ use Rattle.codes.specs.Field.{field_of}
 use Rattle.codes.proofs.FieldLaws.{field_length}
 use Rattle.labels.specs.Label.{field_at}
 use Rattle.registers.specs.Layout.{deepest, entry_place, start_place, parent_place, end_place, HasPlace}
+use Rattle.tables.specs.declared.Row.{Row}
 use Rattle.tables.specs.Table.{most_rows}
-use Rattle.tables.specs.Rows.{HasRow, identity_of, tag_of, depth_of}
-use Rattle.tables.specs.Walk.{Walk, row_count, is_start, innermost, parent_field, begun_bytes, entered, left, stepped, walked, Ready}
+use Rattle.tables.specs.Rows.{HasRow, identity_of, tag_of, depth_of, row_at}
+use Rattle.tables.specs.Walk.{Walk, row_count, is_start, innermost, parent_field, parent_written, begun_bytes, entered, left, stepped, walked, Ready}
 
 -- what the test of a start says
 pub starts_true : (t : List ℕ) (row level : ℕ) → is_start t row level ≡ true → (row < row_count t) × (depth_of t row ≡ level)
@@ -141,3 +142,30 @@ begun_bytes_lem t row i g x b p b₁ b₂ h ei eg e f =
     ∙ put_under b (entry_place row) vs p (omega (arith, n, h.1))
     ∙ ap (put b (entry_place row)) (ap (λ (z : List ℕ). le4 i ++ (le4 g ++ z)) (append_assoc (field_of x) (field_of []) p) ∙ rw (ei, eg)
     refl)
+
+-- the same after the parent start was written
+pub begun_entered : (t : List ℕ) (w : Walk) (r : Row) (x : Digits) (b vb vp : List ℕ) (vr vl : ℕ) → Ready t w
+    → is_start t w.row w.level ≡ true → r ≡ row_at t w.row → record { bytes = vb; path = vp; row = vr; level = vl } ≡ parent_written w
+    → b ≡ put vb (entry_place vr) (le4 r.identity ++ (le4 r.tag ++ (field_of x ++ field_of [])))
+    → record { bytes = b; path = set vp vl vr; row = vr + 1; level = vl + 1 } ≡ entered t x w
+begun_entered t w r x b vb vp vr vl h s e p f =
+    let eb = ap (λ (u : Walk). u.bytes) p in
+    let ep = ap (λ (u : Walk). u.path) p in
+    let er : vr ≡ w.row = ap (λ (u : Walk). u.row) p in
+    let el = ap (λ (u : Walk). u.level) p in
+    let g : b ≡ put vb (entry_place w.row) (le4 r.identity ++ (le4 r.tag ++ (field_of x ++ field_of []))) =
+    f ∙ ap (λ (k : ℕ). put vb (entry_place k) (le4 r.identity ++ (le4 r.tag ++ (field_of x ++ field_of [])))) er in
+    let a = begun_bytes_lem t w.row r.identity r.tag x w.bytes _ vb b (row_place h w.row (starts_true t w.row w.level s).0)
+    (ap (λ (q : Row). q.identity) e) (ap (λ (q : Row). q.tag) e) eb g in
+    rw (a, ep, er, el) refl
+
+pub starts_row : (t : List ℕ) (row level : ℕ) → is_start t row level ≡ true → row < row_count t
+starts_row t row level h = (starts_true t row level h).0
+
+-- what the walk keeps, for the table that it had
+pub entered_ready : (t s : List ℕ) (w v : Walk) (x : Digits) → v ≡ entered t x w → s ≡ t → is_start t w.row w.level ≡ true → Ready t w
+    → Ready s v
+entered_ready t s w v x e f k r = rw (e, f) (ready_entered r x k)
+
+pub left_ready : (t s : List ℕ) (w v : Walk) (x : Digits) → v ≡ left x w → s ≡ t → 0 < w.level → Ready t w → Ready s v
+left_ready t s w v x e f k r = rw (e, f) (ready_left r x k)

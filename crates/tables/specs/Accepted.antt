@@ -6,7 +6,8 @@ use Rattle.trees.specs.Forest.{Forest}
 use Rattle.trees.specs.Table.{forest, Ruled}
 use Rattle.trees.specs.Labelled.{Name}
 use Rattle.registers.specs.Layout.{deepest}
-use Rattle.tables.specs.Table.{most_rows, Row, rows_of}
+use Rattle.tables.specs.declared.Row.{Row}
+use Rattle.tables.specs.Table.{most_rows, rows_of}
 
 -- the rows as names with their depths
 abbrev pub named : List Row → List (Name × ℕ)
