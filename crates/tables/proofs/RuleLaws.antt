@@ -11,6 +11,8 @@ use lib.ListN.{length, drop}
 use borrow.Author.Tests.{eqb-true, eq-eqb, ne_eqb, le-leb, lt-leb}
 use Rattle.answers.specs.declared.Refusal.{Refusal}
 use Rattle.answers.specs.declared.Refusal.TheVariants.{TableSize, RowDepth, RowIdentity}
+use Rattle.identities.specs.Identities.{Holds}
+use Rattle.identities.proofs.IdentityLaws.{holds_none}
 use Rattle.registers.specs.Layout.{deepest}
 use Rattle.tables.specs.Table.{most_rows, row_size, rows_of}
 use Rattle.tables.specs.Rules.{is_depth, identity_at, rows_from, rows_checked, checked_of}
@@ -86,11 +88,17 @@ module _ (t : List ℕ) (i : ℕ) (h : row_size * i + row_size ≤ length t) whe
   pub row_used : is_depth_at t i ≡ true → is_fresh_at t i ≡ false → checked_from t i ≡ Err (RowIdentity i)
   row_used d f = checked_next t i h ∙ rw (d, f)
 
-  pub row_right : is_depth_at t i ≡ true → is_fresh_at t i ≡ true → checked_from t i ≡ checked_from t (suc i)
-  row_right d f = checked_next t i h ∙ rw (d, f)
+  pub row_right : is_depth_at t i ≡ true → is_fresh_at t i ≡ true → checked_from t i ≡ checked_from t (i + 1)
+  row_right d f = checked_next t i h ∙ rw (d, f, add-one)
+
+pub held_next : (p t : List ℕ) (i : ℕ) → Holds p (above t (suc i)) → Holds p (above t (i + 1))
+held_next p t i h = rw add-one h
 
 -- behind the last row
 pub checked_end : (t : List ℕ) (n : ℕ) → length t ≡ row_size * n → checked_from t n ≡ Ok n
 unfolding rows_from
 checked_end t zero h = ap rows_checked (rows_end t 0 h)
 checked_end t (suc n) h = ap (rows_from (suc n) (depth_of t n) (above t (suc n))) (rows_end t (suc n) h)
+
+-- before the first row, a row that is refused, and the end
+pub ruleset rows = (row_deep, row_used, holds_none, checked_end)
