@@ -1,4 +1,4 @@
--- What the rules accept is what 01 asks of a table, no less and no more, and it has one tree. Assumes nothing.
+-- What the rules accept is what is asked of a table, no less and no more, and it has one tree. Assumes nothing.
 use Rattle.std.specs.Prelude.{Result, Ok, Err}
 use mathlib.Core.Path.{◌≡◌, refl, sym, ap, ◌∙◌}
 use mathlib.Core.Bool.{Bool, true, false, cond, ◌&&◌, and-eq-true_iff}
@@ -58,7 +58,7 @@ right row previous used (r ∷ rs) n e =
     with_first previous used r rs (later previous r.depth p.0) (new r.identity used q.0)
     (right (suc row) r.depth (r.identity ∷ used) rs n q.1)
 
--- 01, refusal 1, not given: 1 to 4,096 rows
+-- a size that is accepted: 1 to 4,096 rows
 pub size_bounds : (t : List ℕ) → is_size t ≡ true → (1 ≤ length (rows_of t)) × (length (rows_of t) ≤ most_rows)
 size_bounds t h =
     let a = (and-eq-true_iff (eqb (length t % row_size) 0) _).0 h in
@@ -68,7 +68,7 @@ size_bounds t h =
     let e = rows_length t in
     (omega arith, omega arith)
 
--- demand 2's "any accepted table": what the call accepts is 01's table
+-- what the call accepts is a table by the rules
 pub accepted : (t : List ℕ) (n : ℕ) → checked_of t ≡ Ok n → Accepted (rows_of t)
 unfolding checked_of
 accepted t n e =
@@ -114,7 +114,7 @@ accepted_count t n e = go (rows_of t) (passed (is_size t) _ _ n e).1
         let h = rows_count 1 0 (r.identity ∷ []) rs n q.1 in
         omega arith
 
--- the other way round: no table that 01 allows is refused
+-- the other way round: no table by the rules is refused
 depth_right : (previous depth : ℕ) → Later deepest previous depth → is_depth previous depth ≡ true
 depth_right previous depth l =
     rw (le-leb 1 depth l.inner, le-leb depth (previous + 1) l.step, le-leb depth deepest l.bounded) refl

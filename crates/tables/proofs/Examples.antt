@@ -1,4 +1,4 @@
--- Tables that the rules accept and refuse: 01's worked rows, each refusal, two reasons at once, both sides of the depth.
+-- Tables that the rules accept and refuse: the worked rows, each refusal, two reasons at once, both sides of the depth.
 -- Assumes nothing.
 use Rattle.std.specs.Prelude.{Result, Ok, Err}
 use mathlib.Core.Path.{◌≡◌, refl}

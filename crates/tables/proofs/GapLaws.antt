@@ -13,8 +13,8 @@ use Rattle.digits.proofs.ThirdsLaws.{thirds_one, thirds_step}
 use Rattle.codes.specs.Code.{IsCode}
 use Rattle.codes.specs.Spread.{digits_of, Held, Short}
 use Rattle.codes.specs.declared.spread.Code.{Code}
-use Rattle.tables.specs.Walk.{Walk, stepped, walked, Ready}
-use Rattle.tables.proofs.WalkLaws.{walked_cut, ready_stepped, ready_walked}
+use Rattle.tables.specs.Walk.{Walk, stepped, walked}
+use Rattle.tables.proofs.WalkLaws.{walked_cut}
 
 -- a code that was made has no more digits than a code has
 pub held_short : (c : Code) (x : Digits) → Held c x → IsCode (digits_of c) → Short c

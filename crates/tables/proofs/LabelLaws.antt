@@ -33,7 +33,7 @@ use Rattle.tables.specs.Table.{most_rows, rows_of}
 use Rattle.tables.specs.Rules.{checked_of}
 use Rattle.tables.specs.Rows.{depth_of}
 use Rattle.tables.specs.Accepted.{named, table_tree}
-use Rattle.tables.specs.Walk.{Walk, row_count, at_start, walked, Ready}
+use Rattle.tables.specs.Walk.{row_count, at_start, walked, Ready}
 use Rattle.tables.specs.Labelling.{labelled_tree, label_outcome}
 use Rattle.tables.proofs.RowLaws.{rows_length}
 use Rattle.tables.proofs.AcceptedLaws.{accepted, accepted_count, accepted_tree}

@@ -1,21 +1,19 @@
 -- Laws of the rules, row by row. Assumes nothing.
 use Rattle.std.specs.Prelude.{Result, Ok, Err}
 use mathlib.Core.Path.{◌≡◌, refl, sym, ap, ◌∙◌}
-use mathlib.Core.Bool.{Bool, true, false, cond, and-true, and-false}
+use mathlib.Core.Bool.{Bool, true, false, cond, and-false}
 use mathlib.Core.List.{List}
-use Prim.Native.Nat.{ℕ, zero, suc, ◌+◌, ◌*◌, ◌-◌, ◌/◌, ◌%◌, ◌≤◌, ◌<◌}
+use Prim.Native.Nat.{ℕ, zero, suc, ◌+◌, ◌*◌, ◌/◌, ◌%◌, ◌≤◌, ◌<◌}
 use native.Mathlib.Numerals.{add-one}
-use native.Mathlib.Omega.{arith}
-use lib.Dec.{eqb, leb, leb-suc-suc}
+use lib.Dec.{eqb}
 use lib.ListN.{length, drop}
 use borrow.Author.Tests.{eqb-true, eq-eqb, ne_eqb, le-leb, lt-leb}
 use Rattle.answers.specs.declared.Refusal.{Refusal}
 use Rattle.answers.specs.declared.Refusal.TheVariants.{TableSize, RowDepth, RowIdentity}
 use Rattle.identities.specs.Identities.{Holds}
 use Rattle.identities.proofs.IdentityLaws.{holds_none}
-use Rattle.registers.specs.Layout.{deepest}
 use Rattle.tables.specs.Table.{most_rows, row_size, rows_of}
-use Rattle.tables.specs.Rules.{is_depth, identity_at, rows_from, rows_checked, checked_of}
+use Rattle.tables.specs.Rules.{identity_at, rows_from, rows_checked, checked_of}
 use Rattle.tables.specs.Rows.{depth_of, is_depth_at, is_fresh_at, above, checked_from}
 use Rattle.tables.proofs.RowLaws.{rows_next, rows_end}
 
@@ -39,30 +37,6 @@ size_right t h j k =
     simp (eq-eqb (length t % row_size) 0 h, le-leb 1 (length t / row_size) j, le-leb (length t / row_size) most_rows k)
 
 pub ruleset sizes = (size_part, size_none, size_most, size_right)
-
--- the depth rule behind a previous depth
-pub depth_zero : (previous depth : ℕ) → depth < 1 → is_depth previous depth ≡ false
-depth_zero previous depth h = simp (lt-leb 1 depth h)
-
-pub depth_deep : (previous depth : ℕ) → deepest < depth → is_depth previous depth ≡ false
-depth_deep previous depth h = simp (lt-leb depth deepest h, and-false)
-
-pub depth_step : (previous depth : ℕ) → 1 ≤ depth → depth ≤ deepest → is_depth previous depth ≡ leb (depth - 1) previous
-depth_step previous zero h k = absurd (omega arith)
-depth_step previous (suc d) h k =
-    let e : suc d - 1 ≡ d = omega arith in
-    simp (le-leb 1 (suc d) h, le-leb (suc d) deepest k, and-true, e, add-one, leb-suc-suc)
-
--- and of a row by its number
-pub depth_first : (t : List ℕ) (i d : ℕ) → d ≡ depth_of t i → i ≡ 0 → eqb d 0 ≡ is_depth_at t i
-depth_first t zero d e h = rw e
-depth_first t (suc i) d e h = absurd (omega arith)
-
-pub depth_later : (t : List ℕ) (i p d : ℕ) → p ≡ depth_of t (i - 1) → d ≡ depth_of t i → (i ≡ 0 → ⊥) → is_depth p d ≡ is_depth_at t i
-depth_later t zero p d q e h = absurd (h refl)
-depth_later t (suc i) p d q e h =
-    let k : suc i - 1 ≡ i = omega arith in
-    rw (q, e, k)
 
 -- a choice whose first side matters only where it is taken
 then_same : (b : Bool) (x y z : Result ℕ Refusal) → (b ≡ true → x ≡ y) → cond b x z ≡ cond b y z

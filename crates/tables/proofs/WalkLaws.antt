@@ -1,14 +1,13 @@
 -- Laws of the walk along the tour: what it keeps, its parts, and the bytes of an entry that is begun.
 -- Assumes nothing.
 use mathlib.Core.Path.{◌≡◌, refl, ap, ◌∙◌}
-use mathlib.Core.Bool.{Bool, true, false, cond, and-eq-true_iff}
+use mathlib.Core.Bool.{true, false, and-eq-true_iff}
 use mathlib.Core.List.{List, [], ◌∷◌, ◌++◌, append_assoc}
 use Prim.Native.Nat.{ℕ, ◌+◌, ◌-◌, ◌≤◌, ◌<◌}
 use native.Mathlib.Omega.{arith}
 use lib.Dec.{eqb, ltb}
 use lib.ListN.{length, set, length-append, length-set}
-use borrow.Author.Tests.{ltb-true, eqb-true, eqb-false, ne_eqb, lt-ltb, le-ltb}
-use Rattle.digits.specs.Lists.{All}
+use borrow.Author.Tests.{ltb-true, eqb-true, ne_eqb, lt-ltb, le-ltb}
 use Rattle.digits.specs.Order.{Digits}
 use Rattle.digits.proofs.ListLaws.{all_map, all_at, all_set}
 use Rattle.numbers.specs.Bytes.{put, le4}
@@ -18,8 +17,7 @@ use Rattle.codes.proofs.FieldLaws.{field_length}
 use Rattle.labels.specs.Label.{field_at}
 use Rattle.registers.specs.Layout.{deepest, entry_place, start_place, parent_place, end_place, HasPlace}
 use Rattle.tables.specs.declared.Row.{Row}
-use Rattle.tables.specs.Table.{most_rows}
-use Rattle.tables.specs.Rows.{HasRow, identity_of, tag_of, depth_of, row_at}
+use Rattle.tables.specs.Rows.{identity_of, tag_of, depth_of, row_at}
 use Rattle.tables.specs.Walk.{Walk, row_count, is_start, innermost, parent_field, parent_written, begun_bytes, entered, left, stepped, walked, Ready}
 
 -- what the test of a start says
@@ -34,16 +32,9 @@ starts_inside t row level h = rw (lt-ltb row (row_count t) h) refl
 pub starts_behind : (t : List ℕ) (row level : ℕ) → (row < row_count t → ⊥) → is_start t row level ≡ false
 starts_behind t row level h = rw (le-ltb row (row_count t) (omega arith)) refl
 
--- a row that stands in the table
-pub has_row : (t : List ℕ) (i : ℕ) → row_count t ≤ most_rows → i < row_count t → HasRow t i
-has_row t i most h = (omega arith, omega arith)
-
--- the three ways of a step
+-- two ways of a step
 pub stepped_start : (t : List ℕ) (x : Digits) (w : Walk) → is_start t w.row w.level ≡ true → stepped t x w ≡ entered t x w
 stepped_start t x w e = rw e refl
-
-pub stepped_none : (t : List ℕ) (x : Digits) (w : Walk) → is_start t w.row w.level ≡ false → w.level ≡ 0 → stepped t x w ≡ w
-stepped_none t x w e z = rw (e, z) refl
 
 pub stepped_end : (t : List ℕ) (x : Digits) (w : Walk) → is_start t w.row w.level ≡ false → eqb w.level 0 ≡ false
     → stepped t x w ≡ left x w
@@ -72,9 +63,6 @@ module _ {t : List ℕ} {w : Walk} (r : Ready t w) where
   -- an entry of the table has its place in the register
   pub row_place : (i : ℕ) → i < row_count t → HasPlace w.bytes i
   row_place i h = (omega (arith, r.most), omega (arith, r.room))
-
-  pub row_begun : All (λ j. j ≤ w.row) w.path
-  row_begun = all_map (λ j. (j ≤ w.row) × (j < row_count t)) (λ j. j ≤ w.row) (λ j p. p.0) w.path r.begun
 
   pub ready_entered : (x : Digits) → is_start t w.row w.level ≡ true → Ready t (entered t x w)
   ready_entered x e =
@@ -113,20 +101,6 @@ module _ {t : List ℕ} {w : Walk} (r : Ready t w) where
         levels = r.levels;
         begun = r.begun;
       }
-
-  -- a code keeps what the walk keeps
-  pub ready_stepped : (x : Digits) → Ready t (stepped t x w)
-  ready_stepped x = go (is_start t w.row w.level) refl (eqb w.level 0) refl
-    where
-      go : (s : Bool) → is_start t w.row w.level ≡ s → (z : Bool) → eqb w.level 0 ≡ z
-          → Ready t (cond s (entered t x w) (cond z w (left x w)))
-      go true e z f = ready_entered x e
-      go false e true f = r
-      go false e false f = ready_left x (let n = eqb-false w.level 0 f in omega (arith, n))
-
-pub ready_walked : (t : List ℕ) (xs : List Digits) (w : Walk) → Ready t w → Ready t (walked t xs w)
-ready_walked t [] w r = r
-ready_walked t (x ∷ xs) w r = ready_walked t xs (stepped t x w) (ready_stepped r x)
 
 -- the parent start and then the rest of an entry that is begun are its bytes
 pub begun_bytes_lem : (t : List ℕ) (row i g : ℕ) (x : Digits) (b p b₁ b₂ : List ℕ) → HasPlace b row → i ≡ identity_of t row

@@ -9,7 +9,7 @@ use crate::{ROW, Row, row_at};
 use codes::Code;
 use registers::DEEPEST;
 
-// One level for each depth.
+/// One level for each depth.
 const LEVELS: usize = DEEPEST as usize + 1;
 
 /// The table that is read and the register that is written, the open entry of each level, the next row, and the number of open
@@ -23,6 +23,8 @@ struct Walk<'a> {
     level: usize,
 }
 
+// `Ready` stands in clauses, not in the type: of a struct with a model that holds a `&mut`, the register's owner learns no byte at the
+// end, and `first_codes` promises every byte (tried: its clause `bytes` stays open).
 impl<'a> Walk<'a> {
     ghost use Rattle.std.specs.Prelude.{true, ◌<◌};
     ghost use Rattle.digits.specs.Lists.{All};
@@ -34,7 +36,7 @@ impl<'a> Walk<'a> {
     ghost use Rattle.tables.specs.Walker.{walk_of, Same};
 
     /// Writes the codes of a gap along the tour. Each of its three parts is coded in the same way, and each is narrower.
-    // It calls itself on the three parts, as the rule of first codes says.
+    // The recursion stays: the rule of first codes cuts a gap by two codes, and each part in the same way.
     #[tactic(auto, using(crate::proofs::GapLaws::gaps))]
     fn gap(&mut self, left: Code, right: Code, width: usize)
         requires ready { Ready self.old.table.now (walk_of self.old) }
