@@ -49,15 +49,13 @@ module _ (l r a b : Digits) (d : ℕ) (h : 3 ≤ d) (ea : a ≡ first l r) (eb :
       let q = all_part IsCode (thirds a b (middle_part d)) _ b p.2 in
       record { lower = p.0; first_code = p.1; middle = q.0; second_code = q.1; upper = q.2 }
 
-  -- the walk along the parts is the walk along the gap
-  pub walked_parts : (t : List ℕ) (w v₁ v₂ v₃ v₄ v₅ : Walk) → v₁ ≡ walked t (thirds l a (left_part d)) w → v₂ ≡ stepped t a v₁
-      → v₃ ≡ walked t (thirds a b (middle_part d)) v₂ → v₄ ≡ stepped t b v₃ → v₅ ≡ walked t (thirds b r (right_part d)) v₄
-      → v₅ ≡ walked t (thirds l r d) w
-  walked_parts t w v₁ v₂ v₃ v₄ v₅ e₁ e₂ e₃ e₄ e₅ =
-      e₅ ∙ ap (walked t (thirds b r (right_part d))) (e₄ ∙ ap (stepped t b)
-      (e₃ ∙ ap (walked t (thirds a b (middle_part d))) (e₂ ∙ ap (stepped t a) e₁)))
-      ∙ sym (ap (λ xs. walked t xs w) parts_of ∙ walked_cut t (thirds l a (left_part d)) a _ w
-      ∙ walked_cut t (thirds a b (middle_part d)) b (thirds b r (right_part d)) (stepped t a (walked t (thirds l a (left_part d)) w)))
+  -- the walk along the gap is the walk along its parts
+  walked_parts : (t : List ℕ) (w : Walk) → walked t (thirds l r d) w
+      ≡ walked t (thirds b r (right_part d)) (stepped t b (walked t (thirds a b (middle_part d)) (stepped t a (walked t
+      (thirds l a (left_part d)) w))))
+  walked_parts t w =
+      ap (λ xs. walked t xs w) parts_of ∙ walked_cut t (thirds l a (left_part d)) a _ w
+      ∙ walked_cut t (thirds a b (middle_part d)) b (thirds b r (right_part d)) (stepped t a (walked t (thirds l a (left_part d)) w))
 
 -- the same of codes that were made: what the calls in a gap ask for
 module _ (l r a : Code) (d : ℕ) (ea : Held a (first (digits_of l) (digits_of r))) (k : All IsCode (thirds (digits_of l) (digits_of r) d))
@@ -92,9 +90,7 @@ module _ (l r a b : Code) (d : ℕ) (ea : Held a (first (digits_of l) (digits_of
       ≡ walked t (thirds (digits_of b) (digits_of r) (d - (2 * d + 1) / 3)) (stepped t (digits_of b)
       (walked t (thirds (digits_of a) (digits_of b) ((2 * d + 1) / 3 - (d + 1) / 3)) (stepped t (digits_of a)
       (walked t (thirds (digits_of l) (digits_of a) ((d + 1) / 3)) w))))
-  walked_thirds t w =
-      sym (walked_parts (digits_of l) (digits_of r) (digits_of a) (digits_of b) d h ea.digits eb.digits t w _ _ _ _ _ refl refl refl refl
-      refl)
+  walked_thirds t w = walked_parts (digits_of l) (digits_of r) (digits_of a) (digits_of b) d h ea.digits eb.digits t w
 
 -- a gap with one number inside
 module _ (l r c : Code) (d : ℕ) (e : Held c (between (digits_of l) (digits_of r))) (two : d ≡ 2) where

@@ -54,6 +54,7 @@ fn check(table: &[u32]) -> Result<usize, Refusal>
 }
 
 /// Goes through the rows from the top, in each the depth first.
+// By number, not by chunks: both rules ask for rows above row i.
 #[tactic(auto, using(crate::proofs::RuleLaws::rows))]
 fn check_rows(table: &[u32], n: usize) -> Result<usize, Refusal>
     requires whole { (length table.now ≡ row_size * n) × (n ≤ most_rows) }
