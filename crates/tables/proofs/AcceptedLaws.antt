@@ -1,5 +1,6 @@
--- What the rules accept is what 01 asks of a table, no less and no more, and it has one tree. Assumes nothing.
-use mathlib.Core.Path.{◌≡◌, refl, ap, ◌∙◌}
+-- What the rules accept is what is asked of a table, no less and no more, and it has one tree. Assumes nothing.
+use Rattle.std.specs.Prelude.{Result, Ok, Err}
+use mathlib.Core.Path.{◌≡◌, refl, sym, ap, ◌∙◌}
 use mathlib.Core.Bool.{Bool, true, false, cond, ◌&&◌, and-eq-true_iff}
 use mathlib.Core.List.{List, [], ◌∷◌}
 use Prim.Native.Nat.{ℕ, suc, ◌+◌, ◌/◌, ◌%◌, ◌≤◌}
@@ -9,27 +10,23 @@ use lib.ListN.{length}
 use borrow.Author.Tests.{eqb-true, leb-true, eq-eqb, le-leb}
 use Rattle.digits.specs.Lists.{All, Distinct}
 use Rattle.answers.specs.declared.Refusal.{Refusal}
+use Rattle.answers.proofs.OutcomeLaws.{accepted_refused}
 use Rattle.identities.specs.Rows.{is_fresh}
 use Rattle.identities.proofs.RowLaws.{New, new, fresh_right, others, fewer, behind, some, real}
 use Rattle.trees.specs.Table.{Later, Follow, rows}
 use Rattle.trees.proofs.TableLaws.{ruled_rows}
 use Rattle.registers.specs.Layout.{deepest}
-use Rattle.tables.specs.declared.Checked.{Checked}
-use Rattle.tables.specs.declared.Checked.TheVariants.{Rows, Bad}
-use Rattle.tables.specs.Table.{most_rows, row_size, Row, rows_of}
+use Rattle.tables.specs.declared.Row.{Row}
+use Rattle.tables.specs.Table.{most_rows, row_size, rows_of}
 use Rattle.tables.specs.Rules.{is_size, is_depth, rows_from, rows_checked, checked_of}
 use Rattle.tables.specs.Accepted.{named, identities, Accepted, table_tree}
 use Rattle.tables.proofs.RowLaws.{rows_length}
 use Rattle.tables.proofs.RuleLaws.{size_right}
 
--- a refusal is no number of rows
-bad_rows : (r : Refusal) (n : ℕ) → Bad r ≡ Rows n → ⊥
-bad_rows r n e = let y : ◌≡◌ {A = ℕ} 0 1 = cc in omega arith
-
 -- a test that was passed
-passed : (t : Bool) (r : Refusal) (c : Checked) (n : ℕ) → cond t c (Bad r) ≡ Rows n → (t ≡ true) × (c ≡ Rows n)
+passed : (t : Bool) (r : Refusal) (c : Result ℕ Refusal) (n : ℕ) → cond t c (Err r) ≡ Ok n → (t ≡ true) × (c ≡ Ok n)
 passed true r c n e = (refl, e)
-passed false r c n e = absurd (bad_rows r n e)
+passed false r c n e = accepted_refused (sym e)
 
 later : (previous depth : ℕ) → is_depth previous depth ≡ true → Later deepest previous depth
 later previous depth h =
@@ -52,7 +49,7 @@ with_first previous used r rs l k h =
       distinct = (others r.identity used (identities rs) h.news, h.distinct);
     }
 
-right : (row previous : ℕ) (used : List ℕ) (rs : List Row) (n : ℕ) → rows_from row previous used rs ≡ Rows n → Right previous used rs
+right : (row previous : ℕ) (used : List ℕ) (rs : List Row) (n : ℕ) → rows_from row previous used rs ≡ Ok n → Right previous used rs
 unfolding rows_from
 right row previous used [] n e = record { follow = tt; news = tt; distinct = tt }
 right row previous used (r ∷ rs) n e =
@@ -61,7 +58,7 @@ right row previous used (r ∷ rs) n e =
     with_first previous used r rs (later previous r.depth p.0) (new r.identity used q.0)
     (right (suc row) r.depth (r.identity ∷ used) rs n q.1)
 
--- 01, refusal 1, not given: 1 to 4,096 rows
+-- a size that is accepted: 1 to 4,096 rows
 pub size_bounds : (t : List ℕ) → is_size t ≡ true → (1 ≤ length (rows_of t)) × (length (rows_of t) ≤ most_rows)
 size_bounds t h =
     let a = (and-eq-true_iff (eqb (length t % row_size) 0) _).0 h in
@@ -71,15 +68,15 @@ size_bounds t h =
     let e = rows_length t in
     (omega arith, omega arith)
 
--- demand 2's "any accepted table": what the call accepts is 01's table
-pub accepted : (t : List ℕ) (n : ℕ) → checked_of t ≡ Rows n → Accepted (rows_of t)
+-- what the call accepts is a table by the rules
+pub accepted : (t : List ℕ) (n : ℕ) → checked_of t ≡ Ok n → Accepted (rows_of t)
 unfolding checked_of
 accepted t n e =
     let p = passed (is_size t) _ _ n e in
     let b = size_bounds t p.0 in
     go (rows_of t) b.0 b.1 p.1
   where
-    go : (rs : List Row) → 1 ≤ length rs → length rs ≤ most_rows → rows_checked rs ≡ Rows n → Accepted rs
+    go : (rs : List Row) → 1 ≤ length rs → length rs ≤ most_rows → rows_checked rs ≡ Ok n → Accepted rs
     go [] s m e = absurd (omega arith)
     go (r ∷ rs) s m e =
         let p = passed (eqb r.depth 0) _ _ n e in
@@ -96,7 +93,7 @@ accepted t n e =
         }
 
 -- the number that is answered is the number of rows
-rows_count : (row previous : ℕ) (used : List ℕ) (rs : List Row) (n : ℕ) → rows_from row previous used rs ≡ Rows n → row + length rs ≡ n
+rows_count : (row previous : ℕ) (used : List ℕ) (rs : List Row) (n : ℕ) → rows_from row previous used rs ≡ Ok n → row + length rs ≡ n
 unfolding rows_from
 rows_count row previous used [] n e = let z : row ≡ n = cc in omega arith
 rows_count row previous used (r ∷ rs) n e =
@@ -105,11 +102,11 @@ rows_count row previous used (r ∷ rs) n e =
     let h = rows_count (suc row) r.depth (r.identity ∷ used) rs n q.1 in
     omega arith
 
-pub accepted_count : (t : List ℕ) (n : ℕ) → checked_of t ≡ Rows n → length (rows_of t) ≡ n
+pub accepted_count : (t : List ℕ) (n : ℕ) → checked_of t ≡ Ok n → length (rows_of t) ≡ n
 unfolding checked_of
 accepted_count t n e = go (rows_of t) (passed (is_size t) _ _ n e).1
   where
-    go : (rs : List Row) → rows_checked rs ≡ Rows n → length rs ≡ n
+    go : (rs : List Row) → rows_checked rs ≡ Ok n → length rs ≡ n
     go [] e = cc
     go (r ∷ rs) e =
         let p = passed (eqb r.depth 0) _ _ n e in
@@ -117,15 +114,15 @@ accepted_count t n e = go (rows_of t) (passed (is_size t) _ _ n e).1
         let h = rows_count 1 0 (r.identity ∷ []) rs n q.1 in
         omega arith
 
--- the other way round: no table that 01 allows is refused
+-- the other way round: no table by the rules is refused
 depth_right : (previous depth : ℕ) → Later deepest previous depth → is_depth previous depth ≡ true
 depth_right previous depth l =
     rw (le-leb 1 depth l.inner, le-leb depth (previous + 1) l.step, le-leb depth deepest l.bounded) refl
 
 right_rows : (row previous : ℕ) (used : List ℕ) (rs : List Row) → Right previous used rs
-    → rows_from row previous used rs ≡ Rows (row + length rs)
+    → rows_from row previous used rs ≡ Ok (row + length rs)
 unfolding rows_from
-right_rows row previous used [] h = ap Rows (omega arith)
+right_rows row previous used [] h = ap Ok (omega arith)
 right_rows row previous used (r ∷ rs) h =
     let rest : Right r.depth (r.identity ∷ used) rs =
     record {
@@ -134,16 +131,16 @@ right_rows row previous used (r ∷ rs) h =
       distinct = h.distinct.1;
     } in
     rw (depth_right previous r.depth h.follow.0, fresh_right r.identity used h.news.0)
-    (right_rows (suc row) r.depth (r.identity ∷ used) rs rest ∙ ap Rows (omega arith))
+    (right_rows (suc row) r.depth (r.identity ∷ used) rs rest ∙ ap Ok (omega arith))
 
-pub none_refused : (t : List ℕ) → length t % row_size ≡ 0 → Accepted (rows_of t) → checked_of t ≡ Rows (length (rows_of t))
+pub none_refused : (t : List ℕ) → length t % row_size ≡ 0 → Accepted (rows_of t) → checked_of t ≡ Ok (length (rows_of t))
 none_refused t z a =
     let e = rows_length t in
     let s = a.some in
     let m = a.most in
     size_right t z (omega arith) (omega arith) ∙ go (rows_of t) a
   where
-    go : (rs : List Row) → Accepted rs → rows_checked rs ≡ Rows (length rs)
+    go : (rs : List Row) → Accepted rs → rows_checked rs ≡ Ok (length rs)
     go [] a = refl
     go (r ∷ rs) a =
         let h : Right 0 (r.identity ∷ []) rs =
@@ -153,8 +150,8 @@ none_refused t z a =
           distinct = a.distinct.1;
         } in
         rw (eq-eqb r.depth 0 a.ruled.0, fresh_right r.identity [] (a.real.0, refl))
-        (right_rows 1 0 (r.identity ∷ []) rs h ∙ ap Rows (omega arith))
+        (right_rows 1 0 (r.identity ∷ []) rs h ∙ ap Ok (omega arith))
 
 -- an accepted table has one tree, and its rows come back
-pub accepted_tree : (t : List ℕ) (n : ℕ) → checked_of t ≡ Rows n → rows 0 (table_tree t) ≡ named (rows_of t)
+pub accepted_tree : (t : List ℕ) (n : ℕ) → checked_of t ≡ Ok n → rows 0 (table_tree t) ≡ named (rows_of t)
 accepted_tree t n e = ruled_rows deepest (named (rows_of t)) (accepted t n e).ruled

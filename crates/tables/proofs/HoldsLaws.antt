@@ -1,5 +1,5 @@
 -- An accepted table gives a sound register whose plain tree is the table's, with first codes of at most m digits. Assumes nothing.
-use Rattle.std.specs.Prelude.{Ok}
+use Rattle.std.specs.Prelude.{Result, Ok, Err}
 use mathlib.Core.Path.{◌≡◌, refl, sym, ap, ◌∙◌, subst}
 use mathlib.Core.Logic.{◌≢◌}
 use mathlib.Core.Bool.{true}
@@ -11,6 +11,7 @@ use lib.ListN.{length, take}
 use borrow.Author.Tests.{leb-true}
 use Rattle.digits.specs.Lists.{All, Distinct}
 use Rattle.digits.specs.Code.{Within, Enough}
+use Rattle.answers.specs.declared.Refusal.{Refusal}
 use Rattle.answers.specs.declared.Refusal.TheVariants.{Room}
 use Rattle.answers.specs.Outcome.{Outcome, Unaltered}
 use Rattle.answers.proofs.OutcomeLaws.{accepted_refused, unless_accepted, keeps_unless, keeps_accepted}
@@ -28,8 +29,6 @@ use Rattle.registers.specs.Entries.{register_bytes}
 use Rattle.registers.specs.Holds.{identities as identities_of, Whole, Holds}
 use Rattle.registers.specs.Questions.{is_register_sound}
 use Rattle.registers.proofs.HoldsLaws.{holds_sound}
-use Rattle.tables.specs.declared.Checked.{Checked}
-use Rattle.tables.specs.declared.Checked.TheVariants.{Rows, Bad}
 use Rattle.tables.specs.Table.{rows_of}
 use Rattle.tables.specs.Rules.{checked_of}
 use Rattle.tables.specs.Accepted.{named, identities, table_tree}
@@ -46,7 +45,7 @@ some_root : (t : List (Name × ℕ)) → 1 ≤ length t → Ruled deepest t → 
 some_root [] s h = absurd (omega arith)
 some_root (p ∷ t) s h = rooted_labelled deepest p t h
 
-module _ (t : List ℕ) (n : ℕ) (e : checked_of t ≡ Rows n) where
+module _ (t : List ℕ) (n : ℕ) (e : checked_of t ≡ Ok n) where
   -- the identities of the register are those of the rows
   same_identities : identities_of (preorder (labelled_tree t)) ≡ identities (rows_of t)
   same_identities =
@@ -95,16 +94,16 @@ label_plain t = plain_labelled (table_tree t)
 -- an accepted table: its rows keep the rules, and the buffer has room
 pub record Labelled (table lent : List ℕ) : Type 0 where
   pub rows : ℕ
-  pub checked : checked_of table ≡ Rows rows
+  pub checked : checked_of table ≡ Ok rows
   pub room : entry_place rows ≤ length lent
 
 pub label_accepted : (table lent : List ℕ) (n : ℕ) → (label_outcome table lent).answer ≡ Ok n → Labelled table lent
 unfolding label_outcome
 label_accepted table lent n a = go (checked_of table) refl a
   where
-    go : (k : Checked) → checked_of table ≡ k → (label_as k table lent).answer ≡ Ok n → Labelled table lent
-    go (Bad refusal) e h = accepted_refused (sym h)
-    go (Rows k) e h =
+    go : (k : Result ℕ Refusal) → checked_of table ≡ k → (label_as k table lent).answer ≡ Ok n → Labelled table lent
+    go (Err refusal) e h = accepted_refused (sym h)
+    go (Ok k) e h =
         let t = unless_accepted (leb (entry_place k) (length lent)) Room lent _ n h in
         record { rows = k; checked = e; room = leb-true (entry_place k) (length lent) t.0 }
 
@@ -113,6 +112,6 @@ pub label_keeps : (table lent : List ℕ) → Unaltered lent (label_outcome tabl
 unfolding label_outcome
 label_keeps table lent = go (checked_of table)
   where
-    go : (k : Checked) → Unaltered lent (label_as k table lent)
-    go (Bad refusal) = λ r e. refl
-    go (Rows n) = keeps_unless (leb (entry_place n) (length lent)) Room lent _ (keeps_accepted lent _ _)
+    go : (k : Result ℕ Refusal) → Unaltered lent (label_as k table lent)
+    go (Err refusal) = λ r e. refl
+    go (Ok n) = keeps_unless (leb (entry_place n) (length lent)) Room lent _ (keeps_accepted lent _ _)

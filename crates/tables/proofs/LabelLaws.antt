@@ -1,5 +1,6 @@
 -- The first labelling of an accepted table: what the walk starts from, and that it leaves the register of the labelled tree.
 -- Assumes nothing.
+use Rattle.std.specs.Prelude.{Ok, Err}
 use mathlib.Core.Path.{◌≡◌, refl, sym, ap, ◌∙◌, subst}
 use mathlib.Core.List.{List, [], ◌++◌, append-nil}
 use Prim.Native.Nat.{ℕ, zero, suc, ◌+◌, ◌*◌, ◌≤◌, ◌<◌}
@@ -28,12 +29,11 @@ use Rattle.trees.proofs.ForestLaws.{length_preorder}
 use Rattle.trees.proofs.LabelledLaws.{codes_labelled, plain_labelled, size_labelled, parents_fill}
 use Rattle.registers.specs.Layout.{deepest, entry_place}
 use Rattle.registers.specs.Entries.{entries_bytes, register_bytes}
-use Rattle.tables.specs.declared.Checked.TheVariants.{Rows, Bad}
 use Rattle.tables.specs.Table.{most_rows, rows_of}
 use Rattle.tables.specs.Rules.{checked_of}
 use Rattle.tables.specs.Rows.{depth_of}
 use Rattle.tables.specs.Accepted.{named, table_tree}
-use Rattle.tables.specs.Walk.{Walk, row_count, walked, Ready}
+use Rattle.tables.specs.Walk.{row_count, at_start, walked, Ready}
 use Rattle.tables.specs.Labelling.{labelled_tree, label_outcome}
 use Rattle.tables.proofs.RowLaws.{rows_length}
 use Rattle.tables.proofs.AcceptedLaws.{accepted, accepted_count, accepted_tree}
@@ -43,11 +43,7 @@ all_replicate : (P : ℕ → Type 0) (n x : ℕ) → P x → All P (replicate n 
 all_replicate P zero x p = tt
 all_replicate P (suc n) x p = (p, all_replicate P n x p)
 
--- before the first code: nothing is open
-abbrev at_start : List ℕ → Walk
-at_start bytes = record { bytes = bytes; path = replicate (suc deepest) 0; row = 0; level = 0 }
-
-module _ (t : List ℕ) (n : ℕ) (e : checked_of t ≡ Rows n) where
+module _ (t : List ℕ) (n : ℕ) (e : checked_of t ≡ Ok n) where
   row_count_lem : row_count t ≡ n
   row_count_lem = sym (rows_length t) ∙ accepted_count t n e
 
@@ -101,7 +97,7 @@ module _ (t : List ℕ) (n : ℕ) (e : checked_of t ≡ Rows n) where
   tree_codes = subst (All IsCode) (sym first_codes) nine
 
   -- the walk along the first codes leaves the register of the labelled tree
-  walk_bytes : (b : List ℕ) → entry_place n ≤ length b
+  pub walk_bytes : (b : List ℕ) → entry_place n ≤ length b
       → (walked t (thirds [] [] (2 * n + 1)) (at_start (put b 0 (le4 n ++ le4 0)))).bytes ≡ put b 0
       (register_bytes (preorder (labelled_tree t)))
   walk_bytes b room =
@@ -122,14 +118,6 @@ module _ (t : List ℕ) (n : ℕ) (e : checked_of t ≡ Rows n) where
       ap (λ (xs : List Digits). (walked t xs (at_start (put b 0 h))).bytes) (sym first_codes) ∙ a.at.bytes
       ∙ ap (λ (j : ℕ). put b 0 (le4 j ++ (le4 0 ++ entries_bytes (preorder (labelled f))))) (sym l)
 
-  pub first_bytes : (b b₁ : List ℕ) (x y : Digits) (v : Walk) → entry_place n ≤ length b → b₁ ≡ put b 0 (le4 n ++ le4 0) → x ≡ [] → y ≡ []
-      → v ≡ walked t (thirds x y (2 * n + 1)) (at_start b₁) → v.bytes ≡ put b 0 (register_bytes (preorder (labelled_tree t)))
-  first_bytes b b₁ x y v room i f g k =
-      let same : walked t (thirds x y (2 * n + 1)) (at_start b₁) ≡ walked t (thirds [] [] (2 * n + 1))
-      (at_start (put b 0 (le4 n ++ le4 0))) =
-      rw (f, g, i) refl in
-      ap (λ (w : Walk). w.bytes) (k ∙ same) ∙ walk_bytes b room
-
   pub outcome_short : (lent : List ℕ) → length lent < entry_place n → label_outcome t lent ≡ refused Room lent
   unfolding label_outcome
   outcome_short lent h = rw (e, lt-leb (entry_place n) (length lent) h) refl
@@ -139,6 +127,10 @@ module _ (t : List ℕ) (n : ℕ) (e : checked_of t ≡ Rows n) where
   unfolding label_outcome
   outcome_written lent h = rw (e, le-leb (entry_place n) (length lent) h) refl
 
-pub outcome_bad : (t : List ℕ) (r : Refusal) (lent : List ℕ) → checked_of t ≡ Bad r → label_outcome t lent ≡ refused r lent
+pub outcome_bad : (t : List ℕ) (r : Refusal) (lent : List ℕ) → checked_of t ≡ Err r → label_outcome t lent ≡ refused r lent
 unfolding label_outcome
 outcome_bad t r lent e = rw e refl
+
+pub ruleset starts = (count_most, start_ready, start_codes)
+
+pub ruleset outcomes = (count_most, walk_bytes, outcome_short, outcome_written, outcome_bad)

@@ -21,7 +21,8 @@ use Rattle.trees.specs.Labelled.{Name, Entry, starts, parents, plain, codes}
 use Rattle.registers.specs.Layout.{entry_place, start_place, end_place}
 use Rattle.registers.specs.Entries.{entry_bytes, entries_bytes}
 use Rattle.registers.proofs.EntryLaws.{entries_append, entries_length, start_found, end_put}
-use Rattle.tables.specs.Table.{Row, rows_of}
+use Rattle.tables.specs.declared.Row.{Row}
+use Rattle.tables.specs.Table.{rows_of}
 use Rattle.tables.specs.Rows.{identity_of, tag_of, depth_of}
 use Rattle.tables.specs.Accepted.{named}
 use Rattle.tables.specs.Walk.{Walk, row_count, is_start, innermost, parent_field, begun_bytes, entered, stepped, walked, Ready}

@@ -1,14 +1,13 @@
 -- Laws of the walk along the tour: what it keeps, its parts, and the bytes of an entry that is begun.
 -- Assumes nothing.
 use mathlib.Core.Path.{◌≡◌, refl, ap, ◌∙◌}
-use mathlib.Core.Bool.{Bool, true, false, cond, and-eq-true_iff}
+use mathlib.Core.Bool.{true, false, and-eq-true_iff}
 use mathlib.Core.List.{List, [], ◌∷◌, ◌++◌, append_assoc}
 use Prim.Native.Nat.{ℕ, ◌+◌, ◌-◌, ◌≤◌, ◌<◌}
 use native.Mathlib.Omega.{arith}
 use lib.Dec.{eqb, ltb}
-use lib.ListN.{length, length-append, length-set}
-use borrow.Author.Tests.{ltb-true, eqb-true, eqb-false, ne_eqb, lt-ltb, le-ltb}
-use Rattle.digits.specs.Lists.{All}
+use lib.ListN.{length, set, length-append, length-set}
+use borrow.Author.Tests.{ltb-true, eqb-true, ne_eqb, lt-ltb, le-ltb}
 use Rattle.digits.specs.Order.{Digits}
 use Rattle.digits.proofs.ListLaws.{all_map, all_at, all_set}
 use Rattle.numbers.specs.Bytes.{put, le4}
@@ -17,9 +16,9 @@ use Rattle.codes.specs.Field.{field_of}
 use Rattle.codes.proofs.FieldLaws.{field_length}
 use Rattle.labels.specs.Label.{field_at}
 use Rattle.registers.specs.Layout.{deepest, entry_place, start_place, parent_place, end_place, HasPlace}
-use Rattle.tables.specs.Table.{most_rows}
-use Rattle.tables.specs.Rows.{HasRow, identity_of, tag_of, depth_of}
-use Rattle.tables.specs.Walk.{Walk, row_count, is_start, innermost, parent_field, begun_bytes, entered, left, stepped, walked, Ready}
+use Rattle.tables.specs.declared.Row.{Row}
+use Rattle.tables.specs.Rows.{identity_of, tag_of, depth_of, row_at}
+use Rattle.tables.specs.Walk.{Walk, row_count, is_start, innermost, parent_field, parent_written, begun_bytes, entered, left, stepped, walked, Ready}
 
 -- what the test of a start says
 pub starts_true : (t : List ℕ) (row level : ℕ) → is_start t row level ≡ true → (row < row_count t) × (depth_of t row ≡ level)
@@ -33,16 +32,9 @@ starts_inside t row level h = rw (lt-ltb row (row_count t) h) refl
 pub starts_behind : (t : List ℕ) (row level : ℕ) → (row < row_count t → ⊥) → is_start t row level ≡ false
 starts_behind t row level h = rw (le-ltb row (row_count t) (omega arith)) refl
 
--- a row that stands in the table
-pub has_row : (t : List ℕ) (i : ℕ) → row_count t ≤ most_rows → i < row_count t → HasRow t i
-has_row t i most h = (omega arith, omega arith)
-
--- the three ways of a step
+-- two ways of a step
 pub stepped_start : (t : List ℕ) (x : Digits) (w : Walk) → is_start t w.row w.level ≡ true → stepped t x w ≡ entered t x w
 stepped_start t x w e = rw e refl
-
-pub stepped_none : (t : List ℕ) (x : Digits) (w : Walk) → is_start t w.row w.level ≡ false → w.level ≡ 0 → stepped t x w ≡ w
-stepped_none t x w e z = rw (e, z) refl
 
 pub stepped_end : (t : List ℕ) (x : Digits) (w : Walk) → is_start t w.row w.level ≡ false → eqb w.level 0 ≡ false
     → stepped t x w ≡ left x w
@@ -71,9 +63,6 @@ module _ {t : List ℕ} {w : Walk} (r : Ready t w) where
   -- an entry of the table has its place in the register
   pub row_place : (i : ℕ) → i < row_count t → HasPlace w.bytes i
   row_place i h = (omega (arith, r.most), omega (arith, r.room))
-
-  pub row_begun : All (λ j. j ≤ w.row) w.path
-  row_begun = all_map (λ j. (j ≤ w.row) × (j < row_count t)) (λ j. j ≤ w.row) (λ j p. p.0) w.path r.begun
 
   pub ready_entered : (x : Digits) → is_start t w.row w.level ≡ true → Ready t (entered t x w)
   ready_entered x e =
@@ -113,20 +102,6 @@ module _ {t : List ℕ} {w : Walk} (r : Ready t w) where
         begun = r.begun;
       }
 
-  -- a code keeps what the walk keeps
-  pub ready_stepped : (x : Digits) → Ready t (stepped t x w)
-  ready_stepped x = go (is_start t w.row w.level) refl (eqb w.level 0) refl
-    where
-      go : (s : Bool) → is_start t w.row w.level ≡ s → (z : Bool) → eqb w.level 0 ≡ z
-          → Ready t (cond s (entered t x w) (cond z w (left x w)))
-      go true e z f = ready_entered x e
-      go false e true f = r
-      go false e false f = ready_left x (let n = eqb-false w.level 0 f in omega (arith, n))
-
-pub ready_walked : (t : List ℕ) (xs : List Digits) (w : Walk) → Ready t w → Ready t (walked t xs w)
-ready_walked t [] w r = r
-ready_walked t (x ∷ xs) w r = ready_walked t xs (stepped t x w) (ready_stepped r x)
-
 -- the parent start and then the rest of an entry that is begun are its bytes
 pub begun_bytes_lem : (t : List ℕ) (row i g : ℕ) (x : Digits) (b p b₁ b₂ : List ℕ) → HasPlace b row → i ≡ identity_of t row
     → g ≡ tag_of t row
@@ -141,3 +116,30 @@ begun_bytes_lem t row i g x b p b₁ b₂ h ei eg e f =
     ∙ put_under b (entry_place row) vs p (omega (arith, n, h.1))
     ∙ ap (put b (entry_place row)) (ap (λ (z : List ℕ). le4 i ++ (le4 g ++ z)) (append_assoc (field_of x) (field_of []) p) ∙ rw (ei, eg)
     refl)
+
+-- the same after the parent start was written
+pub begun_entered : (t : List ℕ) (w : Walk) (r : Row) (x : Digits) (b vb vp : List ℕ) (vr vl : ℕ) → Ready t w
+    → is_start t w.row w.level ≡ true → r ≡ row_at t w.row → record { bytes = vb; path = vp; row = vr; level = vl } ≡ parent_written w
+    → b ≡ put vb (entry_place vr) (le4 r.identity ++ (le4 r.tag ++ (field_of x ++ field_of [])))
+    → record { bytes = b; path = set vp vl vr; row = vr + 1; level = vl + 1 } ≡ entered t x w
+begun_entered t w r x b vb vp vr vl h s e p f =
+    let eb = ap (λ (u : Walk). u.bytes) p in
+    let ep = ap (λ (u : Walk). u.path) p in
+    let er : vr ≡ w.row = ap (λ (u : Walk). u.row) p in
+    let el = ap (λ (u : Walk). u.level) p in
+    let g : b ≡ put vb (entry_place w.row) (le4 r.identity ++ (le4 r.tag ++ (field_of x ++ field_of []))) =
+    f ∙ ap (λ (k : ℕ). put vb (entry_place k) (le4 r.identity ++ (le4 r.tag ++ (field_of x ++ field_of [])))) er in
+    let a = begun_bytes_lem t w.row r.identity r.tag x w.bytes _ vb b (row_place h w.row (starts_true t w.row w.level s).0)
+    (ap (λ (q : Row). q.identity) e) (ap (λ (q : Row). q.tag) e) eb g in
+    rw (a, ep, er, el) refl
+
+pub starts_row : (t : List ℕ) (row level : ℕ) → is_start t row level ≡ true → row < row_count t
+starts_row t row level h = (starts_true t row level h).0
+
+-- what the walk keeps, for the table that it had
+pub entered_ready : (t s : List ℕ) (w v : Walk) (x : Digits) → v ≡ entered t x w → s ≡ t → is_start t w.row w.level ≡ true → Ready t w
+    → Ready s v
+entered_ready t s w v x e f k r = rw (e, f) (ready_entered r x k)
+
+pub left_ready : (t s : List ℕ) (w v : Walk) (x : Digits) → v ≡ left x w → s ≡ t → 0 < w.level → Ready t w → Ready s v
+left_ready t s w v x e f k r = rw (e, f) (ready_left r x k)

@@ -5,4 +5,5 @@ pub mod Rules
 pub mod Rows
 pub mod Accepted
 pub mod Walk
+pub mod Walker
 pub mod Labelling

@@ -1,8 +1,9 @@
 -- One row of a table by its number: what the functions that go through the rows say. Assumes nothing.
-use Rattle.std.specs.Prelude.{Bool, List, ℕ, zero, suc, ◌+◌, ◌*◌, ◌≤◌, ◌<◌, eqb, length, drop, get_or}
+use Rattle.std.specs.Prelude.{Bool, List, ℕ, zero, suc, ◌+◌, ◌*◌, ◌≤◌, ◌<◌, eqb, length, drop, get_or, Result}
+use Rattle.answers.specs.declared.Refusal.{Refusal}
 use Rattle.identities.specs.Rows.{is_fresh, earlier}
-use Rattle.tables.specs.declared.Checked.{Checked}
-use Rattle.tables.specs.Table.{most_rows, row_size, Row, rows_of}
+use Rattle.tables.specs.declared.Row.{Row}
+use Rattle.tables.specs.Table.{most_rows, row_size, rows_of}
 use Rattle.tables.specs.Rules.{is_depth, rows_from, rows_checked}
 
 -- row i stands in the table
@@ -35,6 +36,6 @@ abbrev pub is_fresh_at : List ℕ → ℕ → Bool
 is_fresh_at table i = is_fresh (identity_of table i) (above table i)
 
 -- what the rows from row i on give
-abbrev pub checked_from : List ℕ → ℕ → Checked
+abbrev pub checked_from : List ℕ → ℕ → Result ℕ Refusal
 checked_from table zero = rows_checked (rows_of table)
 checked_from table (suc i) = rows_from (suc i) (depth_of table i) (above table (suc i)) (drop (suc i) (rows_of table))

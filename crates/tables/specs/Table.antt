@@ -2,19 +2,15 @@
 -- Assumes nothing.
 use Rattle.std.specs.Prelude.{List, [], ◌∷◌, ℕ}
 use Rattle.registers.specs.Layout.{most_entries}
+use Rattle.tables.specs.declared.Row.{Row}
 
--- 01, Table: as many rows as a register has entries
+-- as many rows as a register has entries
 abbrev pub most_rows : ℕ
 most_rows = most_entries
 
--- 01, Table: identity, tag, depth
+-- identity, tag, depth
 abbrev pub row_size : ℕ
 row_size = 3
-
-pub record Row : Type 0 where
-  pub identity : ℕ
-  pub tag : ℕ
-  pub depth : ℕ
 
 -- the rows of a lent table; numbers that fill no row are left out
 unfoldable pub rows_of : List ℕ → List Row

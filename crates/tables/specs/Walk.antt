@@ -1,13 +1,12 @@
 -- The first labelling as a walk along the tour: each code in its turn starts the next row or ends the innermost open entry.
 -- Assumes nothing.
-use Rattle.std.specs.Prelude.{◌≡◌, Bool, cond, ◌&&◌, List, [], ◌∷◌, ◌++◌, ℕ, suc, ◌+◌, ◌-◌, ◌/◌, ◌≤◌, ◌<◌, eqb, ltb, length, get_or, set}
+use Rattle.std.specs.Prelude.{◌≡◌, Bool, cond, ◌&&◌, List, [], ◌∷◌, ◌++◌, ℕ, suc, ◌+◌, ◌-◌, ◌/◌, ◌≤◌, ◌<◌, eqb, ltb, length, get_or, set, replicate}
 use Rattle.digits.specs.Lists.{All}
 use Rattle.digits.specs.Order.{Digits}
 use Rattle.numbers.specs.Bytes.{put, le4}
 use Rattle.codes.specs.Field.{field_of}
 use Rattle.labels.specs.Label.{field_at}
-use Rattle.registers.specs.Layout.{deepest, entry_place, start_place, end_place}
-use Rattle.tables.specs.declared.walk.Cursor.{Cursor}
+use Rattle.registers.specs.Layout.{deepest, entry_place, start_place, end_place, parent_place}
 use Rattle.tables.specs.Table.{most_rows, row_size}
 use Rattle.tables.specs.Rows.{identity_of, tag_of, depth_of}
 
@@ -18,8 +17,9 @@ pub record Walk : Type 0 where
   pub row : ℕ
   pub level : ℕ
 
-abbrev pub walk_of : List ℕ → List ℕ → Cursor → Walk
-walk_of bytes path at = record { bytes = bytes; path = path; row = at.row; level = at.level }
+-- before the first code: nothing is open
+abbrev pub at_start : List ℕ → Walk
+at_start bytes = record { bytes = bytes; path = replicate (suc deepest) 0; row = 0; level = 0 }
 
 -- how many rows a table has
 abbrev pub row_count : List ℕ → ℕ
@@ -36,6 +36,10 @@ innermost path level = get_or path (level - 1) 0
 -- the parent start of an entry that begins here: the innermost open entry's start; the root's is empty
 abbrev pub parent_field : List ℕ → List ℕ → ℕ → List ℕ
 parent_field bytes path level = cond (eqb level 0) (field_of []) (field_at (start_place (innermost path level)) bytes)
+
+-- that field is written, first of the next row's entry
+abbrev pub parent_written : Walk → Walk
+parent_written w = record w { bytes = put w.bytes (parent_place w.row) (parent_field w.bytes w.path w.level) }
 
 -- the bytes of a row's entry that is begun, its end still empty
 abbrev pub begun_bytes : List ℕ → ℕ → Digits → List ℕ → List ℕ
