@@ -9,7 +9,7 @@ pub returns : goal.returns
 returns c = record {
   bytes = let b = c.args.register.now in
       let s = sized_gives b c.requires.sized in
-      delete_writes b _ _ _ c.count-n.result c.args.i _ _ _ _ c.count-n.ensures.count
+      delete_writes b _ _ _ c.count-n.result c.args.place _ _ _ _ c.count-n.ensures.count
       (omega (arith, c.count-n.ensures.count, c.requires.place))
       (omega (arith, c.count-n.ensures.count, s.room)) c.entry_place.ensures.place c.entry_place-2.ensures.place refl
       c.entry_place-3.ensures.place
