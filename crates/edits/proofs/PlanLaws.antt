@@ -13,7 +13,7 @@ use Rattle.codes.specs.Spread.{digits_of, Held}
 use Rattle.trees.specs.Forest.{Forest}
 use Rattle.trees.specs.Labelled.{Name, Entry, starts, ends}
 use Rattle.trees.specs.Edit.{Where, Spot, spot_of}
-use Rattle.trees.specs.Neighbours.{left_of, right_of, parent_at}
+use Rattle.trees.specs.Neighbours.{left_of, right_of}
 use Rattle.trees.specs.Search.{leading}
 use Rattle.registers.specs.Entries.{code_at}
 use Rattle.registers.specs.Questions.{count_of, lines_of, is_register_sound, tree_in}

@@ -1,5 +1,5 @@
 -- `plan_at` meets its contract. Assumes nothing.
-use mathlib.Core.Path.{sym, ap, ◌∙◌, subst}
+use mathlib.Core.Path.{ap, ◌∙◌}
 use Rattle.digits.specs.Order.{Digits}
 use Rattle.digits.specs.Between.{between}
 use Rattle.codes.specs.Spread.{digits_of, Held}
