@@ -49,9 +49,11 @@ module _ (b : List ℕ) (e : is_register_sound b ≡ true) (w : Where) (i : ℕ)
 
     pub planned_codes : IsCode (digits_of s) × IsCode (digits_of t) × IsCode (digits_of u)
     planned_codes =
-        let n = new_codes b e (record { identity = 0; tag = 0 }) q in
-        (held_code s (start_of left right) started n.0 short, held_code t (end_of left right) ended n.1 short_end,
-            subst IsCode (sym k) (parent_found b e w i h p from g).1)
+        let n = new_codes b e (record { identity = 0; tag = 0 }) q in (
+          held_code s (start_of left right) started n.0 short,
+          held_code t (end_of left right) ended n.1 short_end,
+          subst IsCode (sym k) (parent_found b e w i h p from g).1,
+        )
 
     pub planned : (m : Name) (n : ℕ) → n ≡ leading right (lines_of b)
         → put_outcome b m f q

@@ -81,14 +81,7 @@ struct Gap {
 }
 
 /// Puts one entry in or takes one leaf out, and answers its place. An insertion refuses 5, 6, 7, 3, 10, 4, 8, a deletion 5, 6, 7, 9.
-#[tactic(
-    auto,
-    unfolding(
-        registers::specs::Questions::is_register_sound,
-        crate::specs::Edits::insert_outcome,
-        crate::specs::Edits::delete_outcome
-    )
-)]
+#[tactic(auto, unfolding(registers::specs::Questions::is_register_sound, crate::specs::Edits::insert_outcome, crate::specs::Edits::delete_outcome))]
 pub fn apply(register: &mut [u8], edit: Edit) -> Result<usize, Refusal>
     ensures answer { result ≡ (apply_outcome register.old edit).answer }
     ensures bytes { register.new ≡ (apply_outcome register.old edit).bytes }
@@ -115,13 +108,7 @@ pub fn apply(register: &mut [u8], edit: Edit) -> Result<usize, Refusal>
 }
 
 // An insertion as a place and an entry. Refuses 6, 7, 3, 10, 4, 8.
-#[tactic(
-    auto,
-    unfolding(
-        registers::specs::Questions::is_register_sound,
-        crate::specs::Edits::insert_outcome
-    )
-)]
+#[tactic(auto, unfolding(registers::specs::Questions::is_register_sound, crate::specs::Edits::insert_outcome))]
 fn plan_insertion(register: &[u8], place: Place, name: Name) -> Result<Planned, Refusal>
     requires sound { is_register_sound register.now ≡ true }
     ensures ok { IfOk result (λ p. insert_outcome register.now (where_of place) (target_of place) (name_of name)
