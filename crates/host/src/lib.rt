@@ -75,13 +75,13 @@ pub fn plant_place(register: &[u8], identity: u32) -> i32
 pub fn plant_depth(register: &[u8], identity: u32) -> i32
     ensures answer { result ≡ depth_answer register.now identity }
 {
-    registers::depth(register, identity)
+    registers::depth(register, identity).signed()
 }
 
 pub fn plant_distance(register: &[u8], x: u32, y: u32) -> i32
     ensures answer { result ≡ distance_answer register.now x y }
 {
-    registers::distance(register, x, y)
+    registers::distance(register, x, y).signed()
 }
 
 pub fn plant_insert_first(register: &mut [u8], target: u32, identity: u32, tag: u32) -> i32

@@ -7,5 +7,6 @@ pub mod BytesLaws
 pub mod TreeLaws
 pub mod ReadLaws
 pub mod QuestionLaws
+pub mod ReadingLaws
 pub mod HoldsLaws
 pub mod AnswerLaws

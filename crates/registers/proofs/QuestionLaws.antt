@@ -21,8 +21,7 @@ use Rattle.digits.proofs.ListLaws.{all_at}
 use Rattle.numbers.specs.Bytes.{number_at}
 use Rattle.codes.specs.Code.{IsCode}
 use Rattle.answers.specs.declared.Refusal.TheVariants.{Register, Target}
-use Rattle.answers.specs.Number.{number_of}
-use Rattle.answers.specs.Signed.{refused_as, Signable}
+use Rattle.answers.specs.Signed.{Signable}
 use Rattle.identities.specs.Identities.{is_among}
 use Rattle.identities.specs.Rows.{is_all_new}
 use Rattle.trees.specs.Labelled.{Name, Entry}
@@ -33,7 +32,7 @@ use Rattle.registers.specs.Layout.{most_entries, zero_at, header_size, entry_pla
 use Rattle.registers.specs.Entries.{entry_at, code_at}
 use Rattle.registers.specs.Holds.{identities}
 use Rattle.registers.specs.Sound.{is_sound_label, is_sound_labels, line_at, lines_from, is_tree, HasEntries}
-use Rattle.registers.specs.Questions.{count_of, lines_of, is_sized, is_register_sound, found_from, found_in, is_above_entry, depth_in, place_as, place_answer, depth_as, depth_answer, distance_as, distance_answer}
+use Rattle.registers.specs.Questions.{count_of, lines_of, is_sized, is_register_sound, found_from, found_in, is_above_entry, depth_in, place_as, place_answer, depth_as, depth_result, distance_as, distance_result}
 use Rattle.registers.proofs.SoundLaws.{SoundAt, sound_at, has_place, labels_all}
 use Rattle.registers.proofs.RowLaws.{line_start, line_end, line_parent, lines_length, lines_next}
 use Rattle.registers.proofs.BytesLaws.{coded_sound}
@@ -214,6 +213,8 @@ module _ (b : List ℕ) (x i : ℕ) (h : i < count_of b) where
 pub found_none : (b : List ℕ) (x i : ℕ) → i ≡ count_of b → Nothing ≡ found_at b x i
 found_none b x i e = let z : count_of b - count_of b ≡ 0 = omega arith in rw (e, z) refl
 
+pub ruleset finds = (found_all, found_here, found_later, found_none)
+
 pub at_is : {i j : ℕ} → At i ≡ At j → i ≡ j
 at_is e = cc
 
@@ -328,25 +329,25 @@ module _ (b : List ℕ) (x : ℕ) where
   unfolding place_answer
   place_found e f g = rw (e, g) refl
 
-  pub depth_unsound : is_register_sound b ≡ false → refused_as (number_of Register) ≡ depth_answer b x
-  unfolding depth_answer
+  pub depth_unsound : is_register_sound b ≡ false → Err Register ≡ depth_result b x
+  unfolding depth_result
   depth_unsound e = rw e refl
 
-  pub depth_found : is_register_sound b ≡ true → (f : Found) → f ≡ found_in b x → depth_as b f ≡ depth_answer b x
-  unfolding depth_answer
+  pub depth_found : is_register_sound b ≡ true → (f : Found) → f ≡ found_in b x → depth_as b f ≡ depth_result b x
+  unfolding depth_result
   depth_found e f g = rw (e, g) refl
 
-  pub distance_unsound : (y : ℕ) → is_register_sound b ≡ false → refused_as (number_of Register) ≡ distance_answer b x y
-  unfolding distance_answer
+  pub distance_unsound : (y : ℕ) → is_register_sound b ≡ false → Err Register ≡ distance_result b x y
+  unfolding distance_result
   distance_unsound y e = rw e refl
 
   pub distance_found : (y : ℕ) → is_register_sound b ≡ true → (f g : Found) → f ≡ found_in b x → g ≡ found_in b y
-      → distance_as f g ≡ distance_answer b x y
-  unfolding distance_answer
+      → distance_as f g ≡ distance_result b x y
+  unfolding distance_result
   distance_found y e f g p q = rw (e, p, q) refl
 
-  pub distance_none : (y : ℕ) → is_register_sound b ≡ true → Nothing ≡ found_in b x → refused_as (number_of Target) ≡ distance_answer b x y
-  unfolding distance_answer
+  pub distance_none : (y : ℕ) → is_register_sound b ≡ true → Nothing ≡ found_in b x → Err Target ≡ distance_result b x y
+  unfolding distance_result
   distance_none y e p = rw (e, ← p) refl
 
 -- a place fits a signed number of 32 bits
@@ -357,4 +358,14 @@ place_signable b x = go (is_register_sound b) refl (found_in b x) refl
     go : (t : Bool) → is_register_sound b ≡ t → (f : Found) → found_in b x ≡ f → Signable (cond t (place_as f) (Err Register))
     go false e f g = tt
     go true e (At i) g = omega (arith, found_inside b x i g, (sized_of b e).most)
+    go true e Nothing g = tt
+
+-- and so does a depth
+pub depth_signable : (b : List ℕ) (x : ℕ) → Signable (depth_result b x)
+unfolding depth_result
+depth_signable b x = go (is_register_sound b) refl (found_in b x) refl
+  where
+    go : (t : Bool) → is_register_sound b ≡ t → (f : Found) → found_in b x ≡ f → Signable (cond t (depth_as b f) (Err Register))
+    go false e f g = tt
+    go true e (At i) g = omega (arith, depth_bound b i, (sized_of b e).most)
     go true e Nothing g = tt

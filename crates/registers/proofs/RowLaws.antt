@@ -16,8 +16,7 @@ use Rattle.codes.proofs.TestLaws.{true_is_code}
 use Rattle.trees.specs.Labelled.{Name, Entry, starts, ends}
 use Rattle.trees.specs.Check.{is_under, Rest, rest, fault, then_from, is_whole, row_walk, is_tree_walk}
 use Rattle.trees.proofs.WalkLaws.{row_rest, row_none, row_out, row_bad, row_on}
-use Rattle.registers.specs.declared.walk.Walked.{Walked}
-use Rattle.registers.specs.declared.walk.Walked.TheVariants.{To, Unsound}
+use Rattle.std.specs.Prelude.{Option, Some, None}
 use Rattle.registers.specs.Layout.{start_place, end_place, parent_place, HasPlace}
 use Rattle.registers.specs.Entries.{code_at, entry_at}
 use Rattle.registers.specs.Sound.{is_sound_label, is_tree, line_at, lines_from, is_entry, placed, row_from, levels, children_from, entry_from, HasLabels}
@@ -92,13 +91,13 @@ entry_test b i k p l r h t c =
     ) refl
 
 -- where a walk came to, by what is left
-to_is : {m n : ℕ} → To m ≡ To n → m ≡ n
+to_is : {m n : ℕ} → Some m ≡ Some n → m ≡ n
 to_is e = cc
 
-never : {A : Type 0} {n : ℕ} → Unsound ≡ To n → A
+never : {A : Type 0} {n : ℕ} → None ≡ Some n → A
 never e = let z : ◌≡◌ {A = ℕ} 0 1 = cc in absurd (omega arith)
 
-pub row_past : (b : List ℕ) (n k : ℕ) (p l r : Digits) → To n ≡ row_from b n k p l r n
+pub row_past : (b : List ℕ) (n k : ℕ) (p l r : Digits) → Some n ≡ row_from b n k p l r n
 unfolding row_from
 row_past b n k p l r =
     let z : n - n ≡ 0 = omega arith in
@@ -121,14 +120,14 @@ module _ (b : List ℕ) (n k : ℕ) (p l r : Digits) (i : ℕ) (h : i < n) (c : 
     under_is = ap (λ z. is_under z r) (line_start b i t) ∙ under_code (code_at b (start_place i)) r c
 
     -- an entry that does not start below the right side ends the row
-    row_stops : is_below (code_at b (start_place i)) r ≡ false → To i ≡ row_from b n k p l r i
+    row_stops : is_below (code_at b (start_place i)) r ≡ false → Some i ≡ row_from b n k p l r i
     row_stops f =
         let m : n - length (x ∷ xs) ≡ i = omega (arith, lines_length b (suc i) (n - suc i)) in
-        sym (row_is ∙ ap (placed n) (row_out starts ends is_entry k p l r x xs (under_is ∙ f)) ∙ ap To m)
+        sym (row_is ∙ ap (placed n) (row_out starts ends is_entry k p l r x xs (under_is ∙ f)) ∙ ap Some m)
 
     module _ (f : is_below (code_at b (start_place i)) r ≡ true) where
       -- one that is not in its place is a fault
-      row_fails : is_entry k p l r x ≡ false → row_from b n k p l r i ≡ Unsound
+      row_fails : is_entry k p l r x ≡ false → row_from b n k p l r i ≡ None
       row_fails o = row_is ∙ ap (placed n) (row_bad starts ends is_entry k p l r x xs (under_is ∙ f) o)
 
       -- one in its place: the row goes on behind its children, or their fault is the row's
@@ -170,7 +169,7 @@ module _ (b : List ℕ) (n parent depth : ℕ) (l : Digits) (i : ℕ) (labels : 
   label = label_sound b n i labels.1 h
 
   -- the row ends at an entry that does not start below its parent's end
-  pub row_ends : is_below (code_at b (start_place i)) r ≡ false → To i ≡ children_from b n parent depth l i
+  pub row_ends : is_below (code_at b (start_place i)) r ≡ false → Some i ≡ children_from b n parent depth l i
   row_ends f = row_stops b n k p l r i h coded label f
 
   module _ (f : is_below (code_at b (start_place i)) r ≡ true) where
@@ -182,10 +181,10 @@ module _ (b : List ℕ) (n parent depth : ℕ) (l : Digits) (i : ℕ) (labels : 
     unfolding row_from
     inner_is = rw (add-one i, line_start b i label, line_end b i label, deeper depth) refl
 
-    unfoldable onward : Rest (Entry Name) → Walked
+    unfoldable onward : Rest (Entry Name) → Option ℕ
     onward m = placed n (then_from m (λ us. row_walk starts ends is_entry k p (line_at b i).end r us))
 
-    went : (next : ℕ) (m : Rest (Entry Name)) → inner ≡ m → placed n m ≡ To next → children_from b n parent depth l i ≡ onward m
+    went : (next : ℕ) (m : Rest (Entry Name)) → inner ≡ m → placed n m ≡ Some next → children_from b n parent depth l i ≡ onward m
         → Went b n parent depth l i next
     unfolding row_from onward
     went next fault e g a = never g
@@ -204,27 +203,27 @@ module _ (b : List ℕ) (n parent depth : ℕ) (l : Digits) (i : ℕ) (labels : 
           same = a ∙ rw (line_end b i label, ← d) refl;
         }
 
-    pub row_to : (next : ℕ) → entry_from b n parent depth l i ≡ To next → Went b n parent depth l i next
+    pub row_to : (next : ℕ) → entry_from b n parent depth l i ≡ Some next → Went b n parent depth l i next
     unfolding onward
     row_to next g = go (is_entry k p l r (line_at b i)) refl g
       where
         go : (o : Bool) → is_entry k p l r (line_at b i) ≡ o
-            → cond o (children_from b n i (depth + 1) (code_at b (start_place i)) (i + 1)) Unsound ≡ To next
+            → cond o (children_from b n i (depth + 1) (code_at b (start_place i)) (i + 1)) None ≡ Some next
             → Went b n parent depth l i next
         go true o g = went next inner refl (sym inner_is ∙ g) (row_then b n k p l r i h coded label f o)
         go false o g = never g
 
-    pub row_un : entry_from b n parent depth l i ≡ Unsound → children_from b n parent depth l i ≡ Unsound
+    pub row_un : entry_from b n parent depth l i ≡ None → children_from b n parent depth l i ≡ None
     unfolding onward
     row_un g = go (is_entry k p l r (line_at b i)) refl g
       where
-        stops : (m : Rest (Entry Name)) → placed n m ≡ Unsound → onward m ≡ Unsound
+        stops : (m : Rest (Entry Name)) → placed n m ≡ None → onward m ≡ None
         stops fault e = refl
         stops (rest us) e = never (sym e)
 
         go : (o : Bool) → is_entry k p l r (line_at b i) ≡ o
-            → cond o (children_from b n i (depth + 1) (code_at b (start_place i)) (i + 1)) Unsound ≡ Unsound
-            → children_from b n parent depth l i ≡ Unsound
+            → cond o (children_from b n i (depth + 1) (code_at b (start_place i)) (i + 1)) None ≡ None
+            → children_from b n parent depth l i ≡ None
         go true o g = row_then b n k p l r i h coded label f o ∙ stops inner (sym inner_is ∙ g)
         go false o g = row_fails b n k p l r i h coded label f o
 
@@ -243,10 +242,10 @@ module _ (b : List ℕ) (n parent depth : ℕ) (l : Digits) (i : ℕ) (labels : 
     pub entry_on : is_placed ≡ true → children_from b n i (depth + 1) (code_at b (start_place i)) (i + 1) ≡ entry_from b n parent depth l i
     entry_on e = rw (entry_is, e) refl
 
-    pub entry_no : is_placed ≡ false → Unsound ≡ entry_from b n parent depth l i
+    pub entry_no : is_placed ≡ false → None ≡ entry_from b n parent depth l i
     entry_no e = rw (entry_is, e) refl
 
-pub entry_deep : (b : List ℕ) (n parent depth : ℕ) (l : Digits) (i : ℕ) → 63 < depth → Unsound ≡ entry_from b n parent depth l i
+pub entry_deep : (b : List ℕ) (n parent depth : ℕ) (l : Digits) (i : ℕ) → 63 < depth → None ≡ entry_from b n parent depth l i
 entry_deep b n parent depth l i h = let z : levels depth ≡ 0 = omega arith in rw z refl
 
 -- the tree test: the root's label, its parent start, and whether its children and theirs are all the rest
@@ -288,7 +287,7 @@ module _ (b : List ℕ) (n : ℕ) (some : 0 < n) where
     tree_whole : is_same (code_at b (parent_place 0)) [] ≡ true → is_tree b n ≡ is_whole inside
     tree_whole o = tree_is ∙ ap (λ (z : Bool). z && is_whole inside) (root_is ∙ o)
 
-    all_used : (m : Rest (Entry Name)) → inside ≡ m → (end : ℕ) → placed n m ≡ To end → eqb end n ≡ is_whole m
+    all_used : (m : Rest (Entry Name)) → inside ≡ m → (end : ℕ) → placed n m ≡ Some end → eqb end n ≡ is_whole m
     all_used fault e end g = never g
     all_used (rest []) e end g = let z : end ≡ n = sym (to_is g) ∙ omega arith in eq-eqb end n z
     all_used (rest (u ∷ us)) e end g =
@@ -298,14 +297,14 @@ module _ (b : List ℕ) (n : ℕ) (some : 0 < n) where
         let v : n - suc (length us) ≡ end = to_is g in
         ne_eqb end n (λ z. omega (arith, q.0))
 
-    pub tree_end : is_same (code_at b (parent_place 0)) [] ≡ true → (end : ℕ) → children_from b n 0 1 (code_at b (start_place 0)) 1 ≡ To end
+    pub tree_end : is_same (code_at b (parent_place 0)) [] ≡ true → (end : ℕ) → children_from b n 0 1 (code_at b (start_place 0)) 1 ≡ Some end
         → eqb end n ≡ is_tree b n
     tree_end o end g = all_used inside refl end (sym inside_is ∙ g) ∙ sym (tree_whole o)
 
-    pub tree_un : is_same (code_at b (parent_place 0)) [] ≡ true → children_from b n 0 1 (code_at b (start_place 0)) 1 ≡ Unsound
+    pub tree_un : is_same (code_at b (parent_place 0)) [] ≡ true → children_from b n 0 1 (code_at b (start_place 0)) 1 ≡ None
         → false ≡ is_tree b n
     tree_un o g = sym (tree_whole o ∙ go inside (sym inside_is ∙ g))
       where
-        go : (m : Rest (Entry Name)) → placed n m ≡ Unsound → is_whole m ≡ false
+        go : (m : Rest (Entry Name)) → placed n m ≡ None → is_whole m ≡ false
         go fault e = refl
         go (rest us) e = never (sym e)

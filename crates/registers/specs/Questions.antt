@@ -3,8 +3,7 @@ use Rattle.std.specs.Prelude.{Bool, cond, ◌&&◌, List, [], ◌∷◌, map, �
 use Rattle.answers.specs.declared.Refusal.{Refusal}
 use Rattle.digits.specs.Order.{is_below}
 use Rattle.answers.specs.declared.Refusal.TheVariants.{Register, Target}
-use Rattle.answers.specs.Number.{number_of}
-use Rattle.answers.specs.Signed.{refused_as}
+use Rattle.answers.specs.Signed.{signed_as}
 use Rattle.identities.specs.Rows.{is_all_new}
 use Rattle.numbers.specs.Bytes.{number_at}
 use Rattle.trees.specs.Forest.{Forest}
@@ -66,19 +65,26 @@ tree_of us = forest (map (λ u. (u, depth_in u us)) us)
 abbrev pub tree_in : List ℕ → Forest (Entry Name)
 tree_in bytes = tree_of (lines_of bytes)
 
-abbrev pub depth_as : List ℕ → Found → ℤ
-depth_as bytes (At i) = pos (depth_in (line_at bytes i) (lines_of bytes))
-depth_as bytes Nothing = refused_as (number_of Target)
+abbrev pub depth_as : List ℕ → Found → Result ℕ Refusal
+depth_as bytes (At i) = Ok (depth_in (line_at bytes i) (lines_of bytes))
+depth_as bytes Nothing = Err Target
 
-unfoldable pub depth_answer : List ℕ → ℕ → ℤ
-depth_answer bytes x = cond (is_register_sound bytes) (depth_as bytes (found_in bytes x)) (refused_as (number_of Register))
+unfoldable pub depth_result : List ℕ → ℕ → Result ℕ Refusal
+depth_result bytes x = cond (is_register_sound bytes) (depth_as bytes (found_in bytes x)) (Err Register)
 
--- 01: place of y minus place of x, signed; x before y
-abbrev pub distance_as : Found → Found → ℤ
-distance_as (At i) (At j) = pos j -ℤ pos i
-distance_as (At i) Nothing = refused_as (number_of Target)
-distance_as Nothing found = refused_as (number_of Target)
+-- the same as C gets it
+abbrev pub depth_answer : List ℕ → ℕ → ℤ
+depth_answer bytes x = signed_as pos (depth_result bytes x)
 
-unfoldable pub distance_answer : List ℕ → ℕ → ℕ → ℤ
-distance_answer bytes x y =
-    cond (is_register_sound bytes) (distance_as (found_in bytes x) (found_in bytes y)) (refused_as (number_of Register))
+-- place of y minus place of x, signed; x before y
+abbrev pub distance_as : Found → Found → Result ℤ Refusal
+distance_as (At i) (At j) = Ok (pos j -ℤ pos i)
+distance_as (At i) Nothing = Err Target
+distance_as Nothing found = Err Target
+
+unfoldable pub distance_result : List ℕ → ℕ → ℕ → Result ℤ Refusal
+distance_result bytes x y = cond (is_register_sound bytes) (distance_as (found_in bytes x) (found_in bytes y)) (Err Register)
+
+-- the same as C gets it
+abbrev pub distance_answer : List ℕ → ℕ → ℕ → ℤ
+distance_answer bytes x y = signed_as (λ z. z) (distance_result bytes x y)

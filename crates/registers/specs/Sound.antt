@@ -1,5 +1,5 @@
 -- When a lent buffer is a sound register, as tests that compute. The walk over the entries is that of `trees`. Assumes nothing.
-use Rattle.std.specs.Prelude.{◌≡◌, ◌⊎◌, Bool, true, cond, ◌&&◌, List, [], ◌∷◌, ℕ, zero, suc, ◌+◌, ◌-◌, ◌≤◌, ltb, length, take, drop}
+use Rattle.std.specs.Prelude.{◌≡◌, ◌⊎◌, Bool, true, cond, ◌&&◌, List, [], ◌∷◌, ℕ, zero, suc, ◌+◌, ◌-◌, ◌≤◌, ltb, length, take, drop, Option, Some, None}
 use Rattle.digits.specs.Order.{Digits, is_below}
 use Rattle.codes.specs.Code.{field_size, IsCode, is_code}
 use Rattle.codes.specs.Field.{field_of}
@@ -7,8 +7,6 @@ use Rattle.codes.specs.Reading.{read, is_code_held, is_same}
 use Rattle.labels.specs.Label.{label_size, field_at, is_sound}
 use Rattle.trees.specs.Labelled.{Name, Entry, starts, ends}
 use Rattle.trees.specs.Check.{is_under, Rest, rest, fault, row_walk, is_tree_walk}
-use Rattle.registers.specs.declared.walk.Walked.{Walked}
-use Rattle.registers.specs.declared.walk.Walked.TheVariants.{To, Unsound}
 use Rattle.registers.specs.Layout.{most_entries, deepest, label_at, entry_place, start_place, end_place}
 use Rattle.registers.specs.Entries.{code_at, entry_at}
 
@@ -40,13 +38,13 @@ is_entry k p l r u =
     ltb 0 k && (is_code u.start && (is_code u.end
     && (is_below u.start u.end && (is_below l u.start && (is_under u.end r && is_same u.parent p)))))
 
--- where a walk came to, of n entries
-abbrev pub placed : ℕ → Rest (Entry Name) → Walked
-placed n (rest us) = To (n - length us)
-placed n fault = Unsound
+-- where a walk came to, of n entries; nowhere where what it met is not sound
+abbrev pub placed : ℕ → Rest (Entry Name) → Option ℕ
+placed n (rest us) = Some (n - length us)
+placed n fault = None
 
 -- the row from line i on, of n lines
-unfoldable pub row_from : List ℕ → ℕ → ℕ → Digits → Digits → Digits → ℕ → Walked
+unfoldable pub row_from : List ℕ → ℕ → ℕ → Digits → Digits → Digits → ℕ → Option ℕ
 row_from bytes n k p l r i = placed n (row_walk starts ends is_entry k p l r (lines_from bytes i (n - i)))
 
 -- how many levels there are from a depth on
@@ -54,16 +52,16 @@ abbrev pub levels : ℕ → ℕ
 levels depth = suc deepest - depth
 
 -- the row of children of an entry, from line i on
-abbrev pub children_from : List ℕ → ℕ → ℕ → ℕ → Digits → ℕ → Walked
+abbrev pub children_from : List ℕ → ℕ → ℕ → ℕ → Digits → ℕ → Option ℕ
 children_from bytes n parent depth l i =
     row_from bytes n (levels depth) (code_at bytes (start_place parent)) l (code_at bytes (end_place parent)) i
 
 -- an entry in its place, with its row of children
-abbrev pub entry_from : List ℕ → ℕ → ℕ → ℕ → Digits → ℕ → Walked
+abbrev pub entry_from : List ℕ → ℕ → ℕ → ℕ → Digits → ℕ → Option ℕ
 entry_from bytes n parent depth l i =
     cond (is_entry (levels depth) (code_at bytes (start_place parent)) l (code_at bytes (end_place parent)) (line_at bytes i))
     (children_from bytes n i (depth + 1) (code_at bytes (start_place i)) (i + 1))
-    Unsound
+    None
 
 -- 01, Register: the tree test of its n lines
 unfoldable pub is_tree : List ℕ → ℕ → Bool

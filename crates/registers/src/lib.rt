@@ -1,4 +1,4 @@
-// A register: its layout, its soundness, the questions on it, and an entry's parts written in their places.
+//! A register: its layout, its soundness, the questions on it, and an entry's parts written in their places.
 #![tactic(auto)]
 
 ghost use Rattle.std.specs.Prelude.{◌≡◌, true, cond, ◌++◌, [], ◌+◌, ◌≤◌, ◌<◌, length};
@@ -10,30 +10,34 @@ ghost use Rattle.labels.specs.Label.{field_at};
 ghost use Rattle.identities.specs.Rows.{is_all_new};
 ghost use Rattle.registers.specs.Entries.{entry_bytes};
 ghost use Rattle.registers.specs.Holds.{identities};
-ghost use Rattle.registers.specs.Sound.{line_at, lines_from, HasEntries};
-ghost use Rattle.registers.specs.Questions.{count_of, lines_of, is_sized, is_register_sound, found_in, depth_in, place_answer, depth_answer, distance_answer};
+ghost use Rattle.registers.specs.Sound.{line_at, CodeAt};
+ghost use Rattle.digits.specs.Order.{is_below};
+ghost use Rattle.codes.specs.Spread.{Held, Short};
+ghost use Rattle.registers.specs.Entries.{code_at};
+ghost use Rattle.registers.specs.Questions.{count_of, lines_of, is_sized, is_register_sound, found_in, depth_in, place_answer, depth_result, distance_result};
 ghost use Rattle.registers.specs.Layout.{most_entries, count_at, header_size, entry_place, start_place, end_place, parent_place, HasPlace};
 
+mod reading;
 mod walk;
 
 use answers::Refusal;
 use codes::Code;
 use labels::{END, LABEL, PARENT, START};
-pub use walk::{code_at, end_place, fields_below, parent_place, start_place};
+pub use reading::{Reading, Sound};
 
-// The largest number of entries and the largest depth.
+/// The largest number of entries and the largest depth.
 pub const MOST: usize = 4096;
 
 pub const DEEPEST: u32 = 63;
 
-// Where count, zero and the entries begin.
+/// Where count, zero and the entries begin.
 pub const COUNT: usize = 0;
 
 pub const ZERO: usize = COUNT + 4;
 
 pub const HEADER: usize = ZERO + 4;
 
-// Where an entry's parts begin, and how many bytes it has.
+/// Where an entry's parts begin, and how many bytes it has.
 pub const IDENTITY: usize = 0;
 
 pub const TAG: usize = IDENTITY + 4;
@@ -42,90 +46,59 @@ pub const ENTRY_LABEL: usize = TAG + 4;
 
 pub const ENTRY: usize = ENTRY_LABEL + LABEL;
 
-// Where an identity stands, from 0, or that it does not.
+/// Where an identity stands, from 0, or that it does not.
 #[derive(Clone, Copy)]
 pub enum Found {
     At(usize),
     Nothing,
 }
 
-// The place of an identity, from 0. Refuses 5, 6.
+/// The place of an identity, from 0. Refuses 5, 6.
 pub fn place(register: &[u8], identity: u32) -> Result<usize, Refusal>
     ensures answer { result ≡ place_answer register.now identity }
 {
-    if !sound(register) {
-        return Err(Refusal::Register);
-    }
-    let Found::At(place) = find(register, identity) else {
+    let register = Sound::check(register)?;
+    // Found and `let else` stay: the lookup's own enum is kept by a rule of the project.
+    let Found::At(place) = register.reading.find(identity) else {
         return Err(Refusal::Target);
     };
     Ok(place)
 }
 
-// The depth of an identity. Refuses 5, 6.
-pub fn depth(register: &[u8], identity: u32) -> i32
-    ensures answer { result ≡ depth_answer register.now identity }
+/// The depth of an identity. Refuses 5, 6.
+pub fn depth(register: &[u8], identity: u32) -> Result<usize, Refusal>
+    ensures answer { result ≡ depth_result register.now identity }
 {
-    if !sound(register) {
-        return Refusal::Register.signed();
-    }
-    let Found::At(place) = find(register, identity) else {
-        return Refusal::Target.signed();
+    let register = Sound::check(register)?;
+    let Found::At(place) = register.reading.find(identity) else {
+        return Err(Refusal::Target);
     };
-    depth_at(register, place) as i32
+    Ok(register.depth_at(place))
 }
 
-// The place of y minus the place of x. Refuses 5, 6.
-pub fn distance(register: &[u8], x: u32, y: u32) -> i32
-    ensures answer { result ≡ distance_answer register.now x y }
+/// The place of y minus the place of x. Refuses 5, 6.
+pub fn distance(register: &[u8], x: u32, y: u32) -> Result<i32, Refusal>
+    ensures answer { result ≡ distance_result register.now x y }
 {
-    if !sound(register) {
-        return Refusal::Register.signed();
-    }
-    let Found::At(from) = find(register, x) else {
-        return Refusal::Target.signed();
+    let register = Sound::check(register)?;
+    let Found::At(from) = register.reading.find(x) else {
+        return Err(Refusal::Target);
     };
-    let Found::At(to) = find(register, y) else {
-        return Refusal::Target.signed();
+    let Found::At(to) = register.reading.find(y) else {
+        return Err(Refusal::Target);
     };
-    to as i32 - from as i32
+    Ok(to as i32 - from as i32)
 }
 
-// Whether a buffer holds a sound register.
+/// Whether a buffer holds a sound register.
 pub fn sound(register: &[u8]) -> bool
     ensures sound { result ≡ is_register_sound register.now }
 {
-    if !sized(register) {
-        return false;
-    }
-    let n = count(register);
-    if !new_identities(register, n) {
-        return false;
-    }
-    walk::tree(register, n)
+    Sound::check(register).is_ok()
 }
 
-// The count is 1 to 4,096, the second number zero, and all counted entries stand in the buffer.
-fn sized(register: &[u8]) -> bool
-    ensures sized { result ≡ is_sized register.now }
-{
-    if register.len() < HEADER {
-        return false;
-    }
-    let n = count(register);
-    if n < 1 {
-        return false;
-    }
-    if MOST < n {
-        return false;
-    }
-    if register.len() < entry_place(n) {
-        return false;
-    }
-    numbers::read_u32(register, ZERO) == 0
-}
-
-// The number of entries that a register says it has.
+/// The number of entries that a register says it has.
+#[inline(always)]
 pub fn count(register: &[u8]) -> usize
     requires header { header_size ≤ length register.now }
     ensures count { result ≡ count_of register.now }
@@ -133,67 +106,52 @@ pub fn count(register: &[u8]) -> usize
     numbers::read_u32(register, COUNT) as usize
 }
 
-// The identities of n entries are not 0 and all different.
-fn new_identities(register: &[u8], n: usize) -> bool
-    requires entries { HasEntries register.now n }
-    ensures new { result ≡ is_all_new (identities (lines_from register.now 0 n)) }
-{
-    let mut all = [0u32; MOST];
-    let mut i = 0;
-    while i < n {
-        all[i] = identity(register, i);
-        i += 1;
-    }
-    identities::all_new(&all, n)
-}
-
-fn identity(register: &[u8], i: usize) -> u32
-    requires place { HasPlace register.now i }
-    ensures identity { result ≡ (line_at register.now i).name.identity }
-{
-    numbers::read_u32(register, entry_place(i) + IDENTITY)
-}
-
-// Looks for an identity among the counted entries.
+// Kept until `edits` asks a `Reading` and a `Sound` itself.
 pub fn find(register: &[u8], x: u32) -> Found
     requires sized { is_sized register.now ≡ true }
     ensures found { result ≡ found_in register.now x }
 {
-    let n = count(register);
-    let mut i = 0;
-    while i < n {
-        if identity(register, i) == x {
-            return Found::At(i);
-        }
-        i += 1;
-    }
-    Found::Nothing
+    let reading = Reading {
+        bytes: register,
+        count: count(register),
+    };
+    reading.find(x)
 }
 
-// The number of entries above the one at a place.
+// Kept until `edits` asks a `Reading` and a `Sound` itself.
 pub fn depth_at(register: &[u8], place: usize) -> usize
     requires sound { is_register_sound register.now ≡ true }
     requires place { place < count_of register.now }
     ensures depth { result ≡ depth_in (line_at register.now place) (lines_of register.now) }
 {
-    let n = count(register);
-    let mut depth = 0;
-    let mut i = 0;
-    while i < n {
-        depth += one(walk::above(register, i, place));
-        i += 1;
-    }
-    depth
+    let reading = Reading {
+        bytes: register,
+        count: count(register),
+    };
+    let sound = Sound { reading };
+    sound.depth_at(place)
 }
 
-fn one(yes: bool) -> usize
-    ensures one { result ≡ cond yes 1 0 }
-    ensures small { result ≤ 1 }
+// Kept until `edits` asks a `Reading` and a `Sound` itself.
+pub fn code_at(register: &[u8], at: usize) -> Code
+    requires code { CodeAt register.now at }
+    ensures held { Held result (code_at register.now at) }
+    ensures short { Short result }
 {
-    if yes { 1 } else { 0 }
+    codes::code_of(labels::field(register, at))
 }
 
-// Where entry i begins.
+// Kept until `edits` asks a `Reading` and a `Sound` itself.
+#[tactic(auto, using(crate::proofs::SoundLaws::codes_below))]
+pub fn fields_below(register: &[u8], x: usize, y: usize) -> bool
+    requires codes { CodeAt register.now x × CodeAt register.now y }
+    ensures below { result ≡ is_below (code_at register.now x) (code_at register.now y) }
+{
+    codes::below(labels::field(register, x), labels::field(register, y))
+}
+
+/// Where entry i begins.
+#[inline(always)]
 pub fn entry_place(i: usize) -> usize
     requires most { i ≤ most_entries }
     ensures place { result ≡ entry_place i }
@@ -201,7 +159,34 @@ pub fn entry_place(i: usize) -> usize
     HEADER + ENTRY * i
 }
 
-// Leaves the count of entries and the zero behind it.
+/// Where the start of entry i stands.
+#[inline(always)]
+pub fn start_place(i: usize) -> usize
+    requires most { i ≤ most_entries }
+    ensures place { result ≡ start_place i }
+{
+    entry_place(i) + ENTRY_LABEL + START
+}
+
+/// Where the end of entry i stands.
+#[inline(always)]
+pub fn end_place(i: usize) -> usize
+    requires most { i ≤ most_entries }
+    ensures place { result ≡ end_place i }
+{
+    entry_place(i) + ENTRY_LABEL + END
+}
+
+/// Where the parent start of entry i stands.
+#[inline(always)]
+pub fn parent_place(i: usize) -> usize
+    requires most { i ≤ most_entries }
+    ensures place { result ≡ parent_place i }
+{
+    entry_place(i) + ENTRY_LABEL + PARENT
+}
+
+/// Leaves the count of entries and the zero behind it.
 pub fn write_header(register: &mut [u8], count: usize)
     requires room { header_size ≤ length register.old }
     requires most { count ≤ most_entries }
@@ -211,7 +196,7 @@ pub fn write_header(register: &mut [u8], count: usize)
     numbers::write_u32(register, ZERO, 0);
 }
 
-// Leaves identity, tag and start of entry i, and an empty end.
+/// Leaves identity, tag and start of entry i, and an empty end.
 pub fn begin(register: &mut [u8], i: usize, identity: u32, tag: u32, start: Code)
     requires place { HasPlace register.old i }
     requires start { IsCode (digits_of start) }
@@ -225,7 +210,7 @@ pub fn begin(register: &mut [u8], i: usize, identity: u32, tag: u32, start: Code
     numbers::clear(register, place + ENTRY_LABEL + END, Code::FIELD);
 }
 
-// Leaves the end of entry i.
+/// Leaves the end of entry i.
 pub fn write_end(register: &mut [u8], i: usize, end: Code)
     requires place { HasPlace register.old i }
     requires end { IsCode (digits_of end) }
@@ -234,7 +219,7 @@ pub fn write_end(register: &mut [u8], i: usize, end: Code)
     codes::write_code(register, entry_place(i) + ENTRY_LABEL + END, end);
 }
 
-// Leaves entry i whole.
+/// Leaves entry i whole.
 pub fn write_entry(
     register: &mut [u8],
     i: usize,
@@ -264,7 +249,7 @@ pub fn write_entry(
     codes::write_code(register, at + ENTRY_LABEL + PARENT, parent);
 }
 
-// Leaves an empty parent start in entry i.
+/// Leaves an empty parent start in entry i.
 pub fn clear_parent(register: &mut [u8], i: usize)
     requires place { HasPlace register.old i }
     ensures bytes { register.new ≡ put register.old (parent_place i) (field_of []) }
@@ -272,7 +257,7 @@ pub fn clear_parent(register: &mut [u8], i: usize)
     numbers::clear(register, entry_place(i) + ENTRY_LABEL + PARENT, Code::FIELD);
 }
 
-// Leaves in entry i, as its parent start, the start of its parent, which stands no later.
+/// Leaves in entry i, as its parent start, the start of its parent, which stands no later.
 pub fn copy_parent(register: &mut [u8], i: usize, parent: usize)
     requires place { HasPlace register.old i }
     requires earlier { parent ≤ i }

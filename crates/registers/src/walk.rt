@@ -1,206 +1,113 @@
-// The soundness of a register's entries: an entry is sound when its row of children is, a row when each entry in it is.
-ghost use Rattle.std.specs.Prelude.{◌≡◌, true, ◌&&◌, [], ◌+◌, ◌≤◌, ◌<◌};
+//! The soundness of a register's entries: an entry is sound when its row of children is, a row when each entry in it is.
+ghost use Rattle.std.specs.Prelude.{◌≡◌, true, false, ◌&&◌, [], ◌+◌, ◌≤◌, ◌<◌, MatchOption};
 ghost use Rattle.digits.specs.Order.{is_below};
 ghost use Rattle.codes.specs.Reading.{is_same};
-ghost use Rattle.codes.specs.Spread.{Held, Short};
-ghost use Rattle.registers.specs.Layout.{most_entries, start_place, end_place, parent_place, HasPlace};
+ghost use Rattle.registers.specs.Layout.{most_entries, start_place, end_place, parent_place};
 ghost use Rattle.registers.specs.Entries.{code_at};
-ghost use Rattle.registers.specs.Sound.{label_bytes, is_sound_label, is_sound_labels, line_at, is_tree, children_from, entry_from, CodeAt, SideAt, HasEntries, HasLabels};
-ghost use Rattle.registers.specs.Questions.{is_above_entry};
+ghost use Rattle.registers.specs.Sound.{is_sound_labels, line_at, is_tree, children_from, entry_from, CodeAt};
+ghost use Rattle.registers.specs.Questions.{is_above_entry, count_of};
 
-use crate::{DEEPEST, ENTRY_LABEL, entry_place};
-use codes::Code;
-use labels::{END, LABEL, PARENT, START};
+use crate::reading::Reading;
+use crate::{DEEPEST, end_place, parent_place, start_place};
 
-// Where a walk came to, or that what it met is not sound.
+/// Entries whose labels are all sound.
 #[derive(Clone, Copy)]
-pub enum Walked {
-    To(usize),
-    Unsound,
+pub(crate) struct Labelled<'a> {
+    pub(crate) reading: Reading<'a>,
+    pub(crate) ghost labels: { is_sound_labels reading.bytes.now reading.count ≡ true },
 }
 
-// One root, with an empty parent start, whose children and what lies under them are all other entries.
-pub(crate) fn tree(register: &[u8], n: usize) -> bool
-    requires entries { HasEntries register.now n }
-    requires some { 0 < n }
-    ensures tree { result ≡ is_tree register.now n }
-{
-    if !sound_labels(register, n) {
-        return false;
+impl<'a> Labelled<'a> {
+    /// The entries, where their labels are sound.
+    #[tactic(auto, using(crate::proofs::ReadingLaws::labels_not))]
+    fn check(reading: &Reading<'a>) -> Option<Self>
+        ensures labels { MatchOption result (is_sound_labels reading.now.bytes.now reading.now.count ≡ false) (λ l. l.reading ≡ reading.now) }
+    {
+        for i in 0..reading.count {
+            if !reading.sound_label(i) {
+                return None;
+            }
+        }
+        Some(Labelled { reading: *reading })
     }
-    if !orphan(register) {
-        return false;
-    }
-    match row(register, n, 1, 0, 1) {
-        Walked::To(end) => end == n,
-        Walked::Unsound => false,
-    }
-}
 
-// The labels of the first n entries are sound.
-fn sound_labels(register: &[u8], n: usize) -> bool
-    requires entries { HasEntries register.now n }
-    ensures sound { result ≡ is_sound_labels register.now n }
-{
-    let mut i = 0;
-    while i < n {
-        if !sound_label(register, i) {
+    /// One root, with an empty parent start, whose children and what lies under them are all other entries.
+    #[tactic(auto, using(crate::proofs::ReadingLaws::treed))]
+    pub(crate) fn tree(reading: &Reading<'a>) -> bool
+        ensures tree { result ≡ is_tree reading.now.bytes.now reading.now.count }
+    {
+        let Some(labelled) = Self::check(reading) else {
             return false;
+        };
+        labelled.orphan() && labelled.row(1, 0, 1) == Some(reading.count)
+    }
+
+    /// The first entry's parent start is empty.
+    fn orphan(&self) -> bool
+        ensures orphan { result ≡ is_same (code_at self.now.reading.bytes.now (parent_place 0)) [] }
+    {
+        codes::is_empty(labels::field(self.reading.bytes, parent_place(0)))
+    }
+
+    /// An entry under its parent, between the code at `low` and its parent's end, with its row of children: where the next stands.
+    /// The walk stays a cycle of `entry` and `row` with the loop in the row: so the depth of calls stays at 63 entries.
+    #[cycle(entry_row)]
+    fn entry(&self, at: usize, low: usize, parent: usize, depth: u32) -> Option<usize>
+        requires places { (at < self.now.reading.count) × (parent < self.now.reading.count) }
+        requires low { CodeAt self.now.reading.bytes.now low }
+        ensures walked { result ≡ entry_from self.now.reading.bytes.now self.now.reading.count parent depth
+            (code_at self.now.reading.bytes.now low) at }
+    {
+        if depth <= DEEPEST && self.in_place(at, low, parent) {
+            self.row(at + 1, at, depth + 1)
+        } else {
+            None
         }
-        i += 1;
     }
-    true
-}
 
-// The first entry's parent start is empty.
-fn orphan(register: &[u8]) -> bool
-    requires place { HasPlace register.now 0 }
-    requires label { is_sound_label register.now 0 ≡ true }
-    ensures orphan { result ≡ is_same (code_at register.now (parent_place 0)) [] }
-{
-    codes::is_empty(labels::field(register, parent_place(0)))
-}
-
-// An entry under its parent, between the code at `low` and its parent's end, with its row of children.
-#[cycle(entry_row)]
-pub(crate) fn entry(
-    register: &[u8],
-    n: usize,
-    at: usize,
-    low: usize,
-    parent: usize,
-    depth: u32,
-) -> Walked
-    requires labels { HasLabels register.now n }
-    requires places { (at < n) × (parent < n) }
-    requires low { CodeAt register.now low }
-    ensures walked { result ≡ entry_from register.now n parent depth (code_at register.now low) at }
-{
-    if DEEPEST < depth {
-        return Walked::Unsound;
-    }
-    if in_place(register, at, low, parent) {
-        return row(register, n, at + 1, at, depth + 1);
-    }
-    Walked::Unsound
-}
-
-// The row of children of an entry, from an entry on: one that does not start below the parent's end is no child.
-#[cycle(entry_row)]
-pub(crate) fn row(register: &[u8], n: usize, at: usize, parent: usize, depth: u32) -> Walked
-    requires labels { HasLabels register.now n }
-    requires places { (at ≤ n) × (parent < n) }
-    ensures walked { result
-        ≡ children_from register.now n parent depth (code_at register.now (start_place parent)) at }
-{
-    let mut low = start_place(parent);
-    let mut i = at;
-    while i < n {
-        if !fields_below(register, start_place(i), end_place(parent)) {
-            return Walked::To(i);
-        }
-        match entry(register, n, i, low, parent, depth) {
-            Walked::To(next) => {
-                low = end_place(i);
-                i = next;
+    /// The row of children of an entry, from an entry on: one that does not start below the parent's end is no child.
+    #[cycle(entry_row)]
+    fn row(&self, at: usize, parent: usize, depth: u32) -> Option<usize>
+        requires places { (at ≤ self.now.reading.count) × (parent < self.now.reading.count) }
+        ensures walked { result ≡ children_from self.now.reading.bytes.now self.now.reading.count parent depth
+            (code_at self.now.reading.bytes.now (start_place parent)) at }
+    {
+        let mut low = start_place(parent);
+        let mut i = at;
+        // No `for`: each step goes on behind the entry's own row.
+        while i < self.reading.count {
+            if !self.reading.fields_below(start_place(i), end_place(parent)) {
+                return Some(i);
             }
-            Walked::Unsound => {
-                return Walked::Unsound;
-            }
+            let next = self.entry(i, low, parent, depth)?;
+            low = end_place(i);
+            i = next;
         }
+        Some(i)
     }
-    Walked::To(i)
-}
 
-// Above the code at `low`, its end below its parent's, with its parent's start.
-fn in_place(register: &[u8], at: usize, low: usize, parent: usize) -> bool
-    requires place { HasPlace register.now at }
-    requires label { is_sound_label register.now at ≡ true }
-    requires parent { HasPlace register.now parent }
-    requires above { is_sound_label register.now parent ≡ true }
-    requires low { CodeAt register.now low }
-    ensures place { result ≡ (is_below (code_at register.now low) (code_at register.now (start_place at))
-        && (is_below (code_at register.now (end_place at)) (code_at register.now (end_place parent))
-        && is_same (code_at register.now (parent_place at)) (code_at register.now (start_place parent)))) }
-{
-    if fields_below(register, low, start_place(at)) {
-        if fields_below(register, end_place(at), end_place(parent)) {
-            return fields_same(register, parent_place(at), start_place(parent));
-        }
+    /// Above the code at `low`, its end below its parent's, with its parent's start.
+    fn in_place(&self, at: usize, low: usize, parent: usize) -> bool
+        requires places { (at < self.now.reading.count) × (parent < self.now.reading.count) }
+        requires low { CodeAt self.now.reading.bytes.now low }
+        ensures place { result ≡ (is_below (code_at self.now.reading.bytes.now low) (code_at self.now.reading.bytes.now (start_place at))
+            && (is_below (code_at self.now.reading.bytes.now (end_place at)) (code_at self.now.reading.bytes.now (end_place parent))
+            && is_same (code_at self.now.reading.bytes.now (parent_place at)) (code_at self.now.reading.bytes.now (start_place parent)))) }
+    {
+        self.reading.fields_below(low, start_place(at))
+            && self.reading.fields_below(end_place(at), end_place(parent))
+            && self
+                .reading
+                .fields_same(parent_place(at), start_place(parent))
     }
-    false
-}
 
-// Entry i is above entry j.
-pub(crate) fn above(register: &[u8], i: usize, j: usize) -> bool
-    requires places { HasPlace register.now i × HasPlace register.now j }
-    requires labels { (is_sound_label register.now i ≡ true) × (is_sound_label register.now j ≡ true) }
-    ensures above { result ≡ is_above_entry (line_at register.now i) (line_at register.now j) }
-{
-    if fields_below(register, start_place(i), start_place(j)) {
-        return fields_below(register, end_place(j), end_place(i));
+    /// Entry i is above entry j.
+    #[inline(always)]
+    pub(crate) fn above(&self, i: usize, j: usize) -> bool
+        requires places { (i < self.now.reading.count) × (j < self.now.reading.count) }
+        ensures above { result ≡ is_above_entry (line_at self.now.reading.bytes.now i) (line_at self.now.reading.bytes.now j) }
+    {
+        self.reading.fields_below(start_place(i), start_place(j))
+            && self.reading.fields_below(end_place(j), end_place(i))
     }
-    false
-}
-
-// The code of one field is below that of another.
-pub fn fields_below(register: &[u8], x: usize, y: usize) -> bool
-    requires codes { CodeAt register.now x × CodeAt register.now y }
-    ensures below { result ≡ is_below (code_at register.now x) (code_at register.now y) }
-{
-    codes::below(labels::field(register, x), labels::field(register, y))
-}
-
-// Two fields, each of a code or empty, hold the same.
-fn fields_same(register: &[u8], x: usize, y: usize) -> bool
-    requires sides { SideAt register.now x × SideAt register.now y }
-    ensures same { result ≡ is_same (code_at register.now x) (code_at register.now y) }
-{
-    codes::same(labels::field(register, x), labels::field(register, y))
-}
-
-// The code of a field, spread out.
-pub fn code_at(register: &[u8], at: usize) -> Code
-    requires code { CodeAt register.now at }
-    ensures held { Held result (code_at register.now at) }
-    ensures short { Short result }
-{
-    codes::code_of(labels::field(register, at))
-}
-
-fn sound_label(register: &[u8], i: usize) -> bool
-    requires place { HasPlace register.now i }
-    ensures sound { result ≡ is_sound_label register.now i }
-{
-    labels::sound(label(register, i))
-}
-
-fn label(register: &[u8], i: usize) -> &[u8]
-    requires place { HasPlace register.now i }
-    ensures part { result.now ≡ label_bytes register.now i }
-{
-    let at = entry_place(i) + ENTRY_LABEL;
-    let end = at + LABEL;
-    &register[at..end]
-}
-
-pub fn start_place(i: usize) -> usize
-    requires most { i ≤ most_entries }
-    ensures place { result ≡ start_place i }
-{
-    entry_place(i) + ENTRY_LABEL + START
-}
-
-pub fn end_place(i: usize) -> usize
-    requires most { i ≤ most_entries }
-    ensures place { result ≡ end_place i }
-{
-    entry_place(i) + ENTRY_LABEL + END
-}
-
-pub fn parent_place(i: usize) -> usize
-    requires most { i ≤ most_entries }
-    ensures place { result ≡ parent_place i }
-{
-    entry_place(i) + ENTRY_LABEL + PARENT
 }
