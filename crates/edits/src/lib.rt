@@ -18,13 +18,15 @@ ghost use Rattle.registers.specs.Questions.{count_of, lines_of, is_sized, is_reg
 ghost use Rattle.edits.specs.Splice.{inserted_bytes, deleted_bytes};
 ghost use Rattle.edits.specs.Search.{own_place, parent_from};
 ghost use Rattle.edits.specs.Edits.{where_of, target_of, is_parented, has_room, spot_in, put_outcome, insert_outcome, delete_outcome, apply_outcome};
-ghost use Rattle.edits.specs.Plans.{name_of, entry_of, AreCodes};
+ghost use Rattle.edits.specs.Plans.{bytes_of, name_of, entry_of};
 
+mod entry;
 mod search;
 
 use answers::Refusal;
 use codes::Code;
-use registers::{DEEPEST, ENTRY, Found, MOST, end_place, entry_place, parent_place, start_place};
+use registers::{DEEPEST, ENTRY, Found, MOST, Sound, end_place, entry_place, parent_place, start_place};
+use entry::{Entry, Name};
 use search::{Downward, Upward};
 
 /// Where an entry is put in, with the identity of its target.
@@ -50,22 +52,6 @@ pub enum Edit {
     },
 }
 
-// What an entry has besides its label.
-#[derive(Clone, Copy)]
-struct Name {
-    identity: u32,
-    tag: u32,
-}
-
-// A new entry: its name, and the three codes of its label.
-#[derive(Clone, Copy)]
-struct Entry {
-    name: Name,
-    start: Code,
-    end: Code,
-    parent: Code,
-}
-
 // An insertion that is not refused: the place of the new entry, and the entry.
 #[derive(Clone, Copy)]
 struct Planned {
@@ -81,26 +67,24 @@ struct Gap {
 }
 
 /// Puts one entry in or takes one leaf out, and answers its place. An insertion refuses 5, 6, 7, 3, 10, 4, 8, a deletion 5, 6, 7, 9.
-#[tactic(auto, unfolding(registers::specs::Questions::is_register_sound, crate::specs::Edits::insert_outcome, crate::specs::Edits::delete_outcome))]
+#[tactic(auto, unfolding(crate::specs::Edits::insert_outcome, crate::specs::Edits::delete_outcome))]
 pub fn apply(register: &mut [u8], edit: Edit) -> Result<usize, Refusal>
     ensures answer { result ≡ (apply_outcome register.old edit).answer }
     ensures bytes { register.new ≡ (apply_outcome register.old edit).bytes }
 {
-    if !registers::sound(register) {
-        return Err(Refusal::Register);
-    }
+    let sound = Sound::check(register)?;
     match edit {
         Edit::Insert {
             place,
             identity,
             tag,
         } => {
-            let new = plan_insertion(register, place, Name { identity, tag })?;
+            let new = plan_insertion(&sound, place, Name { identity, tag })?;
             put_in(register, new.place, &new.entry);
             Ok(new.place)
         }
         Edit::Delete { target } => {
-            let at = plan_deletion(register, target)?;
+            let at = plan_deletion(&sound, target)?;
             take_out(register, at);
             Ok(at)
         }
@@ -108,14 +92,13 @@ pub fn apply(register: &mut [u8], edit: Edit) -> Result<usize, Refusal>
 }
 
 // An insertion as a place and an entry. Refuses 6, 7, 3, 10, 4, 8.
-#[tactic(auto, unfolding(registers::specs::Questions::is_register_sound, crate::specs::Edits::insert_outcome))]
-fn plan_insertion(register: &[u8], place: Place, name: Name) -> Result<Planned, Refusal>
-    requires sound { is_register_sound register.now ≡ true }
-    ensures ok { IfOk result (λ p. insert_outcome register.now (where_of place) (target_of place) (name_of name)
-        ≡ accepted p.place (inserted_bytes register.now p.place (entry_of p.entry))) }
-    ensures fits { IfOk result (λ p. (has_room register.now ≡ true) × (p.place ≤ count_of register.now) × AreCodes p.entry) }
-    ensures err { IfErr result (λ r. insert_outcome register.now (where_of place) (target_of place) (name_of name)
-        ≡ refused r register.now) }
+#[tactic(auto, unfolding(crate::specs::Edits::insert_outcome))]
+fn plan_insertion(register: &Sound, place: Place, name: Name) -> Result<Planned, Refusal>
+    ensures ok { IfOk result (λ p. insert_outcome (bytes_of register.now) (where_of place) (target_of place) (name_of name)
+        ≡ accepted p.place (inserted_bytes (bytes_of register.now) p.place (entry_of p.entry))) }
+    ensures fits { IfOk result (λ p. (has_room (bytes_of register.now) ≡ true) × (p.place ≤ count_of (bytes_of register.now))) }
+    ensures err { IfErr result (λ r. insert_outcome (bytes_of register.now) (where_of place) (target_of place) (name_of name)
+        ≡ refused r (bytes_of register.now)) }
 {
     let at = found(register, place.target())?;
     if !place.is_parented(at) {
@@ -135,11 +118,10 @@ fn plan_insertion(register: &[u8], place: Place, name: Name) -> Result<Planned, 
 
 // A deletion as the place of the entry. Refuses 6, 7, 9.
 #[tactic(auto, unfolding(crate::specs::Edits::delete_outcome))]
-fn plan_deletion(register: &[u8], target: u32) -> Result<usize, Refusal>
-    requires sound { is_register_sound register.now ≡ true }
-    ensures ok { IfOk result (λ i. delete_outcome register.now target ≡ accepted i (deleted_bytes register.now i)) }
-    ensures fits { IfOk result (λ i. i < count_of register.now) }
-    ensures err { IfErr result (λ r. delete_outcome register.now target ≡ refused r register.now) }
+fn plan_deletion(register: &Sound, target: u32) -> Result<usize, Refusal>
+    ensures ok { IfOk result (λ i. delete_outcome (bytes_of register.now) target ≡ accepted i (deleted_bytes (bytes_of register.now) i)) }
+    ensures fits { IfOk result (λ i. i < count_of (bytes_of register.now)) }
+    ensures err { IfErr result (λ r. delete_outcome (bytes_of register.now) target ≡ refused r (bytes_of register.now)) }
 {
     let at = found(register, target)?;
     if at == 0 {
@@ -152,37 +134,34 @@ fn plan_deletion(register: &[u8], target: u32) -> Result<usize, Refusal>
 }
 
 // The place of an edit's target. Refuses 6.
-#[tactic(auto, unfolding(registers::specs::Questions::is_register_sound))]
-fn found(register: &[u8], target: u32) -> Result<usize, Refusal>
-    requires sound { is_register_sound register.now ≡ true }
-    ensures ok { IfOk result (λ i. (found_in register.now target ≡ Found.At i) × (i < count_of register.now)) }
-    ensures err { IfErr result (λ r. (r ≡ Refusal.Target) × (found_in register.now target ≡ Found.Nothing)) }
+fn found(register: &Sound, target: u32) -> Result<usize, Refusal>
+    ensures ok { IfOk result (λ i. (found_in (bytes_of register.now) target ≡ Found.At i) × (i < count_of (bytes_of register.now))) }
+    ensures err { IfErr result (λ r. (r ≡ Refusal.Target) × (found_in (bytes_of register.now) target ≡ Found.Nothing)) }
 {
     // `Found` stays an enum of its own, taken apart by `let else`: the place of an identity, or that it has none.
-    let Found::At(at) = registers::find(register, target) else {
+    let Found::At(at) = register.reading.find(target) else {
         return Err(Refusal::Target);
     };
     Ok(at)
 }
 
 // The codes of a new entry between its neighbours, and its place. Refuses 8.
-fn plan_at(register: &[u8], place: Place, at: usize, name: Name) -> Result<Planned, Refusal>
-    requires sound { is_register_sound register.now ≡ true }
-    requires at { at < count_of register.now }
+fn plan_at(register: &Sound, place: Place, at: usize, name: Name) -> Result<Planned, Refusal>
+    requires at { at < count_of (bytes_of register.now) }
     requires parented { is_parented (where_of place) at ≡ true }
-    ensures ok { IfOk result (λ p. put_outcome register.now (name_of name)
-        (tree_in register.now) (spot_in register.now (where_of place) at)
-        ≡ accepted p.place (inserted_bytes register.now p.place (entry_of p.entry))) }
-    ensures fits { IfOk result (λ p. (p.place ≤ count_of register.now) × AreCodes p.entry) }
-    ensures err { IfErr result (λ r. put_outcome register.now (name_of name)
-        (tree_in register.now) (spot_in register.now (where_of place) at)
-        ≡ refused r register.now) }
+    ensures ok { IfOk result (λ p. put_outcome (bytes_of register.now) (name_of name)
+        (tree_in (bytes_of register.now)) (spot_in (bytes_of register.now) (where_of place) at)
+        ≡ accepted p.place (inserted_bytes (bytes_of register.now) p.place (entry_of p.entry))) }
+    ensures fits { IfOk result (λ p. (p.place ≤ count_of (bytes_of register.now))) }
+    ensures err { IfErr result (λ r. put_outcome (bytes_of register.now) (name_of name)
+        (tree_in (bytes_of register.now)) (spot_in (bytes_of register.now) (where_of place) at)
+        ≡ refused r (bytes_of register.now)) }
 {
     let gap = neighbours(register, place, at);
-    let right = registers::code_at(register, gap.right);
-    let start = fitting(codes::step(registers::code_at(register, gap.left), right))?;
+    let right = register.reading.code_at(gap.right);
+    let start = fitting(codes::step(register.reading.code_at(gap.left), right))?;
     let end = fitting(codes::step(start, right))?;
-    let parent = registers::code_at(register, place.parent_from(at));
+    let parent = register.reading.code_at(place.parent_from(at));
     Ok(Planned {
         place: search::starts_below(register, gap.right),
         entry: Entry {
@@ -207,15 +186,14 @@ fn fitting(code: Code) -> Result<Code, Refusal>
 
 // The neighbours of a place: one is the target's own code, the other is found.
 #[tactic(auto, using(crate::proofs::PlaceLaws::sides))]
-fn neighbours(register: &[u8], place: Place, at: usize) -> Gap
-    requires sound { is_register_sound register.now ≡ true }
-    requires at { at < count_of register.now }
+fn neighbours(register: &Sound, place: Place, at: usize) -> Gap
+    requires at { at < count_of (bytes_of register.now) }
     requires parented { is_parented (where_of place) at ≡ true }
-    ensures codes { CodeAt register.now result.left × CodeAt register.now result.right }
-    ensures left { code_at register.now result.left ≡ left_of starts ends
-        (tree_in register.now) (spot_in register.now (where_of place) at) }
-    ensures right { code_at register.now result.right ≡ right_of starts ends
-        (tree_in register.now) (spot_in register.now (where_of place) at) }
+    ensures codes { CodeAt (bytes_of register.now) result.left × CodeAt (bytes_of register.now) result.right }
+    ensures left { code_at (bytes_of register.now) result.left ≡ left_of starts ends
+        (tree_in (bytes_of register.now)) (spot_in (bytes_of register.now) (where_of place) at) }
+    ensures right { code_at (bytes_of register.now) result.right ≡ right_of starts ends
+        (tree_in (bytes_of register.now)) (spot_in (bytes_of register.now) (where_of place) at) }
 {
     let own = place.own_place(at);
     if place.is_upward() {
@@ -236,7 +214,6 @@ fn put_in(register: &mut [u8], place: usize, entry: &Entry)
     requires sized { is_sized register.old ≡ true }
     requires room { has_room register.old ≡ true }
     requires place { place ≤ count_of register.old }
-    requires codes { AreCodes entry.now }
     ensures bytes { register.new ≡ inserted_bytes register.old place (entry_of entry.now) }
 {
     let n = registers::count(register);
@@ -277,30 +254,27 @@ fn take_out(register: &mut [u8], place: usize)
 
 // An identity that is not 0 and no entry's.
 #[tactic(auto, using(crate::proofs::OutcomeLaws::freshness))]
-fn fresh(register: &[u8], identity: u32) -> bool
-    requires sized { is_sized register.now ≡ true }
-    ensures fresh { result ≡ is_fresh identity (identities (lines_of register.now)) }
+fn fresh(register: &Sound, identity: u32) -> bool
+    ensures fresh { result ≡ is_fresh identity (identities (lines_of (bytes_of register.now))) }
 {
-    identity != 0 && matches!(registers::find(register, identity), Found::Nothing)
+    identity != 0 && matches!(register.reading.find(identity), Found::Nothing)
 }
 
 // Fewer than the most entries, and room for one more.
-fn has_room(register: &[u8]) -> bool
-    requires sized { is_sized register.now ≡ true }
-    ensures room { result ≡ has_room register.now }
+fn has_room(register: &Sound) -> bool
+    ensures room { result ≡ has_room (bytes_of register.now) }
 {
-    let n = registers::count(register);
-    n < MOST && entry_place(n + 1) <= register.len()
+    let n = register.reading.count();
+    n < MOST && entry_place(n + 1) <= register.reading.bytes.len()
 }
 
 // The depth of an entry at a place of entry `at`.
-fn level(register: &[u8], place: Place, at: usize) -> usize
-    requires sound { is_register_sound register.now ≡ true }
-    requires at { at < count_of register.now }
-    ensures level { result ≡ level_at (tree_in register.now)
-        (spot_in register.now (where_of place) at) }
+fn level(register: &Sound, place: Place, at: usize) -> usize
+    requires at { at < count_of (bytes_of register.now) }
+    ensures level { result ≡ level_at (tree_in (bytes_of register.now))
+        (spot_in (bytes_of register.now) (where_of place) at) }
 {
-    registers::depth_at(register, at) + usize::from(place.is_inside())
+    register.depth_at(at) + usize::from(place.is_inside())
 }
 
 impl Place {

@@ -4,11 +4,11 @@ use Rattle.edits.proofs.PlaceLaws.{place_fits, own_found}
 use Rattle.edits.proofs.neighbours.Goals as goal
 
 pub own_place-own-requires : goal.own_place-own-requires
-own_place-own-requires c = record { most = place_fits _ _ c.requires.sound c.requires.at }
+own_place-own-requires c = record { most = place_fits _ _ c.args.register.now.sound c.requires.at }
 
 pub nearest-requires-clause-from : goal.nearest-requires-clause-from
-nearest-requires-clause-from c = own_found _ c.requires.sound (where_of c.args.place) _ c.requires.at _ c.own_place-own.ensures.place
+nearest-requires-clause-from c = own_found _ c.args.register.now.sound (where_of c.args.place) _ c.requires.at _ c.own_place-own.ensures.place
 
 pub nearest-requires-else-is_upward-clause-from : goal.nearest-requires-else-is_upward-clause-from
 nearest-requires-else-is_upward-clause-from c =
-    own_found _ c.requires.sound (where_of c.args.place) _ c.requires.at _ c.own_place-own.ensures.place
+    own_found _ c.args.register.now.sound (where_of c.args.place) _ c.requires.at _ c.own_place-own.ensures.place

@@ -9,8 +9,8 @@ use Rattle.edits.proofs.search.nearest.Given as goal
 
 abbrev pub invariant-loop-i : goal.invariant-loop-i
 invariant-loop-i g l = record {
-  counted : l.n ≡ count_of l.register;
-  best : CodeAt l.register l.best;
-  left : nearest g.D.Direction.up (code_at l.register l.from) (outermost g.D.Direction.up (line_at l.register 0)) (lines_of l.register)
-      ≡ nearest_from l.register g.D.Direction.up (code_at l.register l.from) (code_at l.register l.best) l.i;
+  counted : l.n ≡ count_of l.register.reading.bytes.now;
+  best : CodeAt l.register.reading.bytes.now l.best;
+  left : nearest g.D.Direction.up (code_at l.register.reading.bytes.now l.from) (outermost g.D.Direction.up (line_at l.register.reading.bytes.now 0)) (lines_of l.register.reading.bytes.now)
+      ≡ nearest_from l.register.reading.bytes.now g.D.Direction.up (code_at l.register.reading.bytes.now l.from) (code_at l.register.reading.bytes.now l.best) l.i;
 }

@@ -9,6 +9,6 @@ use Rattle.edits.proofs.search.starts_below.Given as goal
 
 abbrev pub invariant-loop-i : goal.invariant-loop-i
 invariant-loop-i l = record {
-  counted : l.n ≡ count_of l.register;
-  left : leading (code_at l.register l.at) (lines_of l.register) ≡ l.i + leading_from l.register (code_at l.register l.at) l.i;
+  counted : l.n ≡ count_of l.register.reading.bytes.now;
+  left : leading (code_at l.register.reading.bytes.now l.at) (lines_of l.register.reading.bytes.now) ≡ l.i + leading_from l.register.reading.bytes.now (code_at l.register.reading.bytes.now l.at) l.i;
 }
