@@ -18,15 +18,13 @@ ghost use Rattle.registers.specs.Questions.{count_of, lines_of, is_sized, is_reg
 ghost use Rattle.edits.specs.Splice.{inserted_bytes, deleted_bytes};
 ghost use Rattle.edits.specs.Search.{own_place, parent_from};
 ghost use Rattle.edits.specs.Edits.{where_of, target_of, is_parented, has_room, spot_in, put_outcome, insert_outcome, delete_outcome, apply_outcome};
-ghost use Rattle.edits.specs.Plans.{bytes_of, name_of, entry_of};
+ghost use Rattle.edits.specs.Plans.{bytes_of, name_of, entry_of, AreCodes};
 
-mod entry;
 mod search;
 
 use answers::Refusal;
 use codes::Code;
-use registers::{DEEPEST, ENTRY, Found, MOST, Sound, end_place, entry_place, parent_place, start_place};
-use entry::{Entry, Name};
+use registers::{DEEPEST, ENTRY, Entry, Found, MOST, Name, Sound, end_place, entry_place, parent_place, start_place};
 use search::{Downward, Upward};
 
 /// Where an entry is put in, with the identity of its target.
@@ -96,7 +94,8 @@ pub fn apply(register: &mut [u8], edit: Edit) -> Result<usize, Refusal>
 fn plan_insertion(register: &Sound, place: Place, name: Name) -> Result<Planned, Refusal>
     ensures ok { IfOk result (λ p. insert_outcome (bytes_of register.now) (where_of place) (target_of place) (name_of name)
         ≡ accepted p.place (inserted_bytes (bytes_of register.now) p.place (entry_of p.entry))) }
-    ensures fits { IfOk result (λ p. (has_room (bytes_of register.now) ≡ true) × (p.place ≤ count_of (bytes_of register.now))) }
+    ensures fits { IfOk result (λ p. (has_room (bytes_of register.now) ≡ true)
+        × (p.place ≤ count_of (bytes_of register.now)) × AreCodes p.entry) }
     ensures err { IfErr result (λ r. insert_outcome (bytes_of register.now) (where_of place) (target_of place) (name_of name)
         ≡ refused r (bytes_of register.now)) }
 {
@@ -152,7 +151,7 @@ fn plan_at(register: &Sound, place: Place, at: usize, name: Name) -> Result<Plan
     ensures ok { IfOk result (λ p. put_outcome (bytes_of register.now) (name_of name)
         (tree_in (bytes_of register.now)) (spot_in (bytes_of register.now) (where_of place) at)
         ≡ accepted p.place (inserted_bytes (bytes_of register.now) p.place (entry_of p.entry))) }
-    ensures fits { IfOk result (λ p. (p.place ≤ count_of (bytes_of register.now))) }
+    ensures fits { IfOk result (λ p. (p.place ≤ count_of (bytes_of register.now)) × AreCodes p.entry) }
     ensures err { IfErr result (λ r. put_outcome (bytes_of register.now) (name_of name)
         (tree_in (bytes_of register.now)) (spot_in (bytes_of register.now) (where_of place) at)
         ≡ refused r (bytes_of register.now)) }
@@ -214,6 +213,7 @@ fn put_in(register: &mut [u8], place: usize, entry: &Entry)
     requires sized { is_sized register.old ≡ true }
     requires room { has_room register.old ≡ true }
     requires place { place ≤ count_of register.old }
+    requires codes { AreCodes entry.now }
     ensures bytes { register.new ≡ inserted_bytes register.old place (entry_of entry.now) }
 {
     let n = registers::count(register);
@@ -223,15 +223,7 @@ fn put_in(register: &mut [u8], place: usize, entry: &Entry)
         entry_place(place),
         ENTRY * (n - place),
     );
-    registers::write_entry(
-        register,
-        place,
-        entry.name.identity,
-        entry.name.tag,
-        entry.start,
-        entry.end,
-        entry.parent,
-    );
+    registers::write_entry(register, place, entry);
     registers::write_header(register, n + 1);
 }
 

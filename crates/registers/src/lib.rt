@@ -17,12 +17,14 @@ ghost use Rattle.registers.specs.Entries.{code_at};
 ghost use Rattle.registers.specs.Questions.{count_of, lines_of, is_sized, is_register_sound, found_in, depth_in, place_answer, depth_result, distance_result};
 ghost use Rattle.registers.specs.Layout.{most_entries, count_at, header_size, entry_place, start_place, end_place, parent_place, HasPlace};
 
+mod entry;
 mod reading;
 mod walk;
 
 use answers::Refusal;
 use codes::Code;
 use labels::{END, LABEL, PARENT, START};
+pub use entry::{Entry, Name};
 pub use reading::{Reading, Sound};
 
 /// The largest number of entries and the largest depth.
@@ -197,17 +199,18 @@ pub fn write_header(register: &mut [u8], count: usize)
 }
 
 /// Leaves identity, tag and start of entry i, and an empty end.
-pub fn begin(register: &mut [u8], i: usize, identity: u32, tag: u32, start: Code)
+pub fn begin(register: &mut [u8], i: usize, name: Name, start: Code)
     requires place { HasPlace register.old i }
     requires start { IsCode (digits_of start) }
-    ensures bytes { register.new
-        ≡ put register.old (entry_place i) (le4 identity ++ (le4 tag ++ (field_of (digits_of start) ++ field_of []))) }
+    ensures bytes { register.new ≡ put register.old (entry_place i)
+        (le4 name.identity ++ (le4 name.tag ++ (field_of (digits_of start) ++ field_of []))) }
 {
     let place = entry_place(i);
-    numbers::write_u32(register, place + IDENTITY, identity);
-    numbers::write_u32(register, place + TAG, tag);
+    let end = place + ENTRY_LABEL + END;
+    numbers::write_u32(register, place + IDENTITY, name.identity);
+    numbers::write_u32(register, place + TAG, name.tag);
     codes::write_code(register, place + ENTRY_LABEL + START, start);
-    numbers::clear(register, place + ENTRY_LABEL + END, Code::FIELD);
+    register[end..end + Code::FIELD].fill(0);
 }
 
 /// Leaves the end of entry i.
@@ -216,55 +219,49 @@ pub fn write_end(register: &mut [u8], i: usize, end: Code)
     requires end { IsCode (digits_of end) }
     ensures bytes { register.new ≡ put register.old (end_place i) (field_of (digits_of end)) }
 {
-    codes::write_code(register, entry_place(i) + ENTRY_LABEL + END, end);
+    codes::write_code(register, end_place(i), end);
 }
 
 /// Leaves entry i whole.
-pub fn write_entry(
-    register: &mut [u8],
-    i: usize,
-    identity: u32,
-    tag: u32,
-    start: Code,
-    end: Code,
-    parent: Code,
-)
+pub fn write_entry(register: &mut [u8], i: usize, entry: &Entry)
     requires place { HasPlace register.old i }
-    requires start { IsCode (digits_of start) }
-    requires end { IsCode (digits_of end) }
-    requires parent { IsCode (digits_of parent) }
+    requires start { IsCode (digits_of entry.now.start) }
+    requires end { IsCode (digits_of entry.now.end) }
+    requires parent { IsCode (digits_of entry.now.parent) }
     ensures bytes { register.new ≡ put register.old (entry_place i)
         (entry_bytes (record {
-          name = record { identity = identity; tag = tag };
-          start = digits_of start;
-          end = digits_of end;
-          parent = digits_of parent;
+          name = record { identity = entry.now.name.identity; tag = entry.now.name.tag };
+          start = digits_of entry.now.start;
+          end = digits_of entry.now.end;
+          parent = digits_of entry.now.parent;
         })) }
 {
     let at = entry_place(i);
-    numbers::write_u32(register, at + IDENTITY, identity);
-    numbers::write_u32(register, at + TAG, tag);
-    codes::write_code(register, at + ENTRY_LABEL + START, start);
-    codes::write_code(register, at + ENTRY_LABEL + END, end);
-    codes::write_code(register, at + ENTRY_LABEL + PARENT, parent);
+    numbers::write_u32(register, at + IDENTITY, entry.name.identity);
+    numbers::write_u32(register, at + TAG, entry.name.tag);
+    codes::write_code(register, at + ENTRY_LABEL + START, entry.start);
+    codes::write_code(register, at + ENTRY_LABEL + END, entry.end);
+    codes::write_code(register, at + ENTRY_LABEL + PARENT, entry.parent);
 }
 
 /// Leaves an empty parent start in entry i.
+#[tactic(auto, using(numbers::proofs::PutLaws::runs, crate::proofs::WriteLaws::field_empty))]
 pub fn clear_parent(register: &mut [u8], i: usize)
     requires place { HasPlace register.old i }
     ensures bytes { register.new ≡ put register.old (parent_place i) (field_of []) }
 {
-    numbers::clear(register, entry_place(i) + ENTRY_LABEL + PARENT, Code::FIELD);
+    let at = parent_place(i);
+    register[at..at + Code::FIELD].fill(0);
 }
 
 /// Leaves in entry i, as its parent start, the start of its parent, which stands no later.
+#[tactic(auto, unfolding(numbers::specs::Bytes::put))]
 pub fn copy_parent(register: &mut [u8], i: usize, parent: usize)
     requires place { HasPlace register.old i }
     requires earlier { parent ≤ i }
     ensures bytes { register.new
         ≡ put register.old (parent_place i) (field_at (start_place parent) register.old) }
 {
-    let to = entry_place(i) + ENTRY_LABEL + PARENT;
-    let from = entry_place(parent) + ENTRY_LABEL + START;
-    numbers::move_up(register, to, from, Code::FIELD);
+    let from = start_place(parent);
+    register.copy_within(from..from + Code::FIELD, parent_place(i));
 }

@@ -103,8 +103,10 @@ fn enter(
     registers::begin(
         register,
         row,
-        crate::identity_of(table, row),
-        crate::tag_of(table, row),
+        Name {
+            identity: crate::identity_of(table, row),
+            tag: crate::tag_of(table, row),
+        },
         start,
     );
     path[level] = row;

@@ -6,9 +6,12 @@ use Rattle.edits.proofs.neighbours.Goals as goal
 pub own_place-own-requires : goal.own_place-own-requires
 own_place-own-requires c = record { most = place_fits _ _ c.args.register.now.sound c.requires.at }
 
-pub nearest-requires-clause-from : goal.nearest-requires-clause-from
-nearest-requires-clause-from c = own_found _ c.args.register.now.sound (where_of c.args.place) _ c.requires.at _ c.own_place-own.ensures.place
+pub nearest-requires : goal.nearest-requires
+nearest-requires c = record {
+  from = own_found _ c.args.register.now.sound (where_of c.args.place) _ c.requires.at _ c.own_place-own.ensures.place;
+}
 
-pub nearest-requires-else-is_upward-clause-from : goal.nearest-requires-else-is_upward-clause-from
-nearest-requires-else-is_upward-clause-from c =
-    own_found _ c.args.register.now.sound (where_of c.args.place) _ c.requires.at _ c.own_place-own.ensures.place
+pub nearest-requires-else-is_upward : goal.nearest-requires-else-is_upward
+nearest-requires-else-is_upward c = record {
+  from = own_found _ c.args.register.now.sound (where_of c.args.place) _ c.requires.at _ c.own_place-own.ensures.place;
+}

@@ -37,4 +37,11 @@ returns-clause-ok c =
     (c.starts_below.ensures.starts ∙ ap (λ (r : Digits). leading r (lines_of c.args.register.now.reading.bytes.now)) c.neighbours-gap.ensures.right)
 
 pub returns-clause-fits : goal.returns-clause-fits
-returns-clause-fits c = c.starts_below.ensures.most
+returns-clause-fits c = (
+  c.starts_below.ensures.most,
+  planned_codes _ c.args.register.now.sound (where_of c.args.place) _ c.requires.at c.requires.parented _ _ _ _ _
+      (c.code_at.ensures.held.digits ∙ c.neighbours-gap.ensures.left) (c.code_at-right.ensures.held.digits ∙ c.neighbours-gap.ensures.right)
+      (start c) (end c) (rw c.in_ok-start.ensures.ok.0 c.in_ok-start.ensures.ok.1)
+      (rw c.in_ok-end.ensures.ok.0 c.in_ok-end.ensures.ok.1)
+      _ c.parent_from.ensures.place c.code_at-parent.ensures.held.digits,
+)

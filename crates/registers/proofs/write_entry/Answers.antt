@@ -14,10 +14,10 @@ pub returns : goal.returns
 unfolding entry_bytes
 returns c = record {
   bytes = let e : c.entry_place-at.result ≡ entry_place c.args.i = c.entry_place-at.ensures.place in
-      let x = digits_of c.args.start in
-      let y = digits_of c.args.end in
-      five_runs c.args.register.now _ _ _ _ _ (le4 c.args.identity) (le4 c.args.tag) (field_of x) (field_of y)
-      (field_of (digits_of c.args.parent)) (entry_place c.args.i) _ _ _ _ _ (omega arith) (omega arith) (omega arith) (omega arith)
+      let x = digits_of c.args.entry.now.start in
+      let y = digits_of c.args.entry.now.end in
+      five_runs c.args.register.now _ _ _ _ _ (le4 c.args.entry.now.name.identity) (le4 c.args.entry.now.name.tag) (field_of x) (field_of y)
+      (field_of (digits_of c.args.entry.now.parent)) (entry_place c.args.i) _ _ _ _ _ (omega arith) (omega arith) (omega arith) (omega arith)
       (omega (arith, field_length x)) (omega (arith, field_length y)) c.write_u32.ensures.bytes c.write_u32-2.ensures.bytes
       c.write_code.ensures.bytes c.write_code-2.ensures.bytes c.write_code-3.ensures.bytes;
 }
