@@ -11,6 +11,7 @@ ghost use Rattle.tables.specs.Walk.{walk_of, row_count, is_start, innermost, par
 
 use crate::ROW;
 use codes::Code;
+use registers::Name;
 
 // The next row, and the number of open entries.
 #[derive(Clone, Copy)]
