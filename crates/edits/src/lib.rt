@@ -217,11 +217,9 @@ fn put_in(register: &mut [u8], place: usize, entry: &Entry)
     ensures bytes { register.new ≡ inserted_bytes register.old place (entry_of entry.now) }
 {
     let n = registers::count(register);
-    numbers::move_up(
-        register,
+    register.copy_within(
+        entry_place(place)..entry_place(n),
         entry_place(place + 1),
-        entry_place(place),
-        ENTRY * (n - place),
     );
     registers::write_entry(register, place, entry);
     registers::write_header(register, n + 1);
@@ -234,13 +232,12 @@ fn take_out(register: &mut [u8], place: usize)
     ensures bytes { register.new ≡ deleted_bytes register.old place }
 {
     let n = registers::count(register);
-    numbers::move_down(
-        register,
+    let last = entry_place(n - 1);
+    register.copy_within(
+        entry_place(place + 1)..entry_place(n),
         entry_place(place),
-        entry_place(place + 1),
-        ENTRY * (n - 1 - place),
     );
-    numbers::clear(register, entry_place(n - 1), ENTRY);
+    register[last..last + ENTRY].fill(0);
     registers::write_header(register, n - 1);
 }
 
