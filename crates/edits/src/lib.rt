@@ -24,7 +24,10 @@ mod search;
 
 use answers::Refusal;
 use codes::Code;
-use registers::{DEEPEST, ENTRY, Entry, Found, MOST, Name, Sound, end_place, entry_place, parent_place, start_place};
+use registers::{
+    DEEPEST, ENTRY, Entry, Found, MOST, Name, Sound, end_place, entry_place, parent_place,
+    start_place,
+};
 use search::{Downward, Upward};
 
 /// Where an entry is put in, with the identity of its target.
@@ -217,10 +220,7 @@ fn put_in(register: &mut [u8], place: usize, entry: &Entry)
     ensures bytes { register.new ≡ inserted_bytes register.old place (entry_of entry.now) }
 {
     let n = registers::count(register);
-    register.copy_within(
-        entry_place(place)..entry_place(n),
-        entry_place(place + 1),
-    );
+    register.copy_within(entry_place(place)..entry_place(n), entry_place(place + 1));
     registers::write_entry(register, place, entry);
     registers::write_header(register, n + 1);
 }
@@ -233,10 +233,7 @@ fn take_out(register: &mut [u8], place: usize)
 {
     let n = registers::count(register);
     let last = entry_place(n - 1);
-    register.copy_within(
-        entry_place(place + 1)..entry_place(n),
-        entry_place(place),
-    );
+    register.copy_within(entry_place(place + 1)..entry_place(n), entry_place(place));
     register[last..last + ENTRY].fill(0);
     registers::write_header(register, n - 1);
 }
