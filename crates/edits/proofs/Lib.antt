@@ -5,4 +5,5 @@ pub mod PlaceLaws
 pub mod OutcomeLaws
 pub mod SignableLaws
 pub mod HoldsLaws
+pub mod PlanLaws
 pub mod LengthLaws

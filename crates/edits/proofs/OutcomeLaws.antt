@@ -178,3 +178,5 @@ module _ (b : List ℕ) (P : Outcome → Type 0) (other : (r : Refusal) → (num
       go e (At i) k =
           test (ltb 0 i) Root _ (λ n. omega arith)
           (λ p. test (is_leaf i (tree_in b)) Children _ (λ n. omega arith) (λ l. y i e k (ltb-true 0 i p) l))
+
+pub ruleset freshness = (found_identity, new_identity)

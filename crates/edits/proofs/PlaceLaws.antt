@@ -7,6 +7,7 @@ use Prim.Native.Nat.{ℕ, suc, ◌+◌, ◌≤◌, ◌<◌}
 use native.Mathlib.Numerals.{add-one}
 use native.Mathlib.Omega.{arith}
 use lib.Dec.{eqb, ltb}
+use mir.Val.{bool_byte}
 use lib.ListN.{length, get_or, get_or-map}
 use borrow.Author.Tests.{ltb-true}
 use Rattle.digits.specs.Order.{Digits}
@@ -26,12 +27,12 @@ use Rattle.trees.proofs.NeighbourLaws.{parent_in, new_formed}
 use Rattle.trees.proofs.PlaceLaws.{Own, Beside, beside, level_inner}
 use Rattle.trees.proofs.SearchLaws.{other, leading_ahead, neighbour_found, leaf_ahead}
 use Rattle.registers.specs.Entries.{code_at}
-use Rattle.registers.specs.Layout.{deepest, start_place, end_place, parent_place}
+use Rattle.registers.specs.Layout.{most_entries, deepest, start_place, end_place, parent_place}
 use Rattle.registers.specs.Sound.{line_at, CodeAt, SideAt}
 use Rattle.registers.specs.Questions.{count_of, lines_of, is_register_sound, depth_in, tree_in}
 use Rattle.registers.proofs.SoundLaws.{side_held}
 use Rattle.registers.proofs.RowLaws.{lines_length}
-use Rattle.registers.proofs.QuestionLaws.{line_at_lem, codes_at, start_of, end_of, parent_of}
+use Rattle.registers.proofs.QuestionLaws.{line_at_lem, sized_of, depth_bound, codes_at, start_of, end_of, parent_of}
 use Rattle.registers.proofs.AnswerLaws.{rows_lines, Stands, tree_stands}
 use Rattle.edits.specs.Search.{own_place, parent_from}
 use Rattle.edits.specs.Edits.{is_parented}
@@ -75,18 +76,16 @@ module _ (b : List ℕ) (e : is_register_sound b ≡ true) where
         subst (λ (r : Entry Name × ℕ). Beside w r.0 r.1 [] [] [] 0 f q) (row_is i z h)
         (beside w f i inside_tree (z, depth_in z (lines_of b)) [] [] [] 0 stands.sound.parented)
 
-    -- its depth
-    pub level_inside : is_inside w ≡ true → depth_in (line_at b i) (lines_of b) + 1 ≡ level_at f q
-    level_inside k =
-        let n : ℕ = depth_in (line_at b i) (lines_of b) in
-        let l : 0 + level_at f q ≡ suc n = place_at.level ∙ ap (λ (t : Bool). cond t (suc n) n) k in
-        omega arith
-
-    pub level_beside : is_inside w ≡ false → depth_in (line_at b i) (lines_of b) ≡ level_at f q
-    level_beside k =
-        let n : ℕ = depth_in (line_at b i) (lines_of b) in
-        let l : 0 + level_at f q ≡ n = place_at.level ∙ ap (λ (t : Bool). cond t (suc n) n) k in
-        omega arith
+    -- its depth: that of its target, and one more inside
+    pub level_is : (n k : ℕ) (t : Bool) → n ≡ depth_in (line_at b i) (lines_of b) → k ≡ bool_byte t → t ≡ is_inside w
+        → n + k ≡ level_at f q
+    level_is n k t d o e =
+        let l : 0 + level_at f q ≡ cond t (suc n) n = rw (d, e) place_at.level in
+        omega (arith, l, o, step t n)
+      where
+        step : (t : Bool) (n : ℕ) → cond t (suc n) n ≡ n + bool_byte t
+        step true n = omega arith
+        step false n = omega arith
 
     -- the target's own code
     pub own_at : CodeAt b (own_place w i)
@@ -98,6 +97,9 @@ module _ (b : List ℕ) (e : is_register_sound b ≡ true) where
         go before = (codes_at b e i h).start_at_lem
         go after = (codes_at b e i h).end_at_lem
 
+    pub own_found : (own : ℕ) → own ≡ own_place w i → CodeAt b own
+    own_found own e = subst (CodeAt b) (sym e) own_at
+
     own_is : own_code w (line_at b i) ≡ code_at b (own_place w i)
     own_is = go w
       where
@@ -107,10 +109,17 @@ module _ (b : List ℕ) (e : is_register_sound b ≡ true) where
         go before = start_of b e i h
         go after = end_of b e i h
 
-    pub own_side : (t : Bool) → is_upward w ≡ t → Own t (code_at b (own_place w i)) (left_of starts ends f q) (right_of starts ends f q)
+    own_side : (t : Bool) → is_upward w ≡ t → Own t (code_at b (own_place w i)) (left_of starts ends f q) (right_of starts ends f q)
     own_side t k =
         subst (λ (x : Digits). Own t x (left_of starts ends f q) (right_of starts ends f q)) own_is
         (subst (λ (t : Bool). Own t (own_code w (line_at b i)) (left_of starts ends f q) (right_of starts ends f q)) k place_at.own)
+
+    -- it is the left neighbour or the right one
+    pub own_left : (own : ℕ) → own ≡ own_place w i → is_upward w ≡ true → code_at b own ≡ left_of starts ends f q
+    own_left own e k = ap (code_at b) e ∙ sym (own_side true k)
+
+    pub own_right : (own : ℕ) → own ≡ own_place w i → is_upward w ≡ false → code_at b own ≡ right_of starts ends f q
+    own_right own e k = ap (code_at b) e ∙ sym (own_side false k)
 
     module _ (p : is_parented w i ≡ true) where
       pub inner : 0 < level_at f q
@@ -140,11 +149,13 @@ module _ (b : List ℕ) (e : is_register_sound b ≡ true) where
           (λ (t : Bool). nearest t (own_code w (line_at b i)) (outermost t (line_at b 0)) (lines_of b)
           ≡ other t (left_of starts ends f q) (right_of starts ends f q)) (sym k) found_other
 
-      pub other_side : (r own : ℕ) (up : Bool) → up ≡ is_upward w → own ≡ own_place w i → (t : Bool) → is_upward w ≡ t
-          → code_at b r ≡ nearest up (code_at b own) (outermost up (line_at b 0)) (lines_of b)
-          → code_at b r ≡ other t (left_of starts ends f q) (right_of starts ends f q)
-      other_side r own up k o t u n =
-          other_is r own up k o n ∙ ap (λ (z : Bool). other z (left_of starts ends f q) (right_of starts ends f q)) (k ∙ u)
+      pub other_right : (r own : ℕ) → own ≡ own_place w i → is_upward w ≡ true
+          → code_at b r ≡ nearest true (code_at b own) (outermost true (line_at b 0)) (lines_of b) → code_at b r ≡ right_of starts ends f q
+      other_right r own o u n = other_is r own true (sym u) o n
+
+      pub other_left : (r own : ℕ) → own ≡ own_place w i → is_upward w ≡ false
+          → code_at b r ≡ nearest false (code_at b own) (outermost false (line_at b 0)) (lines_of b) → code_at b r ≡ left_of starts ends f q
+      other_left r own o u n = other_is r own false (sym u) o n
 
       -- the parent start of what is put in
       parent_is : parent_at [] f q ≡ code_at b (parent_from w i)
@@ -189,3 +200,17 @@ held_step l r s x y i j h = rw (sym i, sym j) h
 
 pub held_code : (s : Code) (x : Digits) → Held s x → Formed 1 3 x → s.count ≤ longest → IsCode (digits_of s)
 held_code s x h k n = rw h.digits (record { formed = k; fits = omega (arith, h.count) })
+
+-- a depth is at most the number of entries
+pub depth_most : (b : List ℕ) (i n : ℕ) → is_register_sound b ≡ true → n ≡ depth_in (line_at b i) (lines_of b) → n ≤ most_entries
+depth_most b i n e d = omega (arith, d, depth_bound b i, (sized_of b e).most)
+
+pub bool_byte_most : (t : Bool) → bool_byte t ≤ 1
+bool_byte_most true = omega arith
+bool_byte_most false = omega arith
+
+-- a place of an entry is one that a register may have
+pub place_fits : (b : List ℕ) (i : ℕ) → is_register_sound b ≡ true → i < count_of b → i ≤ most_entries
+place_fits b i e h = omega (arith, h, (sized_of b e).most)
+
+pub ruleset sides = (place_fits, own_found, own_left, own_right, other_right, other_left)

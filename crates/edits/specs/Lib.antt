@@ -2,3 +2,4 @@
 pub mod Splice
 pub mod Search
 pub mod Edits
+pub mod Plans

@@ -1,8 +1,9 @@
-// Single edits of a register: one entry put in at one of four places, one leaf taken out.
+//! Single edits of a register: one entry put in at one of four places, one leaf taken out.
 #![tactic(auto)]
 
-ghost use Rattle.std.specs.Prelude.{◌≡◌, true, ◌≤◌, ◌<◌};
-ghost use Rattle.codes.specs.Code.{IsCode};
+ghost use Rattle.std.specs.Prelude.{◌≡◌, true, ◌≤◌, ◌<◌, IfOk, IfErr};
+ghost use Rattle.answers.specs.Outcome.{accepted, refused};
+ghost use Rattle.codes.specs.Code.{IsCode, longest};
 ghost use Rattle.codes.specs.Spread.{digits_of};
 ghost use Rattle.identities.specs.Rows.{is_fresh};
 ghost use Rattle.trees.specs.Labelled.{starts, ends};
@@ -13,19 +14,25 @@ ghost use Rattle.registers.specs.Layout.{most_entries};
 ghost use Rattle.registers.specs.Entries.{code_at};
 ghost use Rattle.registers.specs.Holds.{identities};
 ghost use Rattle.registers.specs.Sound.{CodeAt};
-ghost use Rattle.registers.specs.Questions.{count_of, lines_of, is_sized, is_register_sound, tree_in};
+ghost use Rattle.registers.specs.Questions.{count_of, lines_of, is_sized, is_register_sound, found_in, tree_in};
 ghost use Rattle.edits.specs.Splice.{inserted_bytes, deleted_bytes};
 ghost use Rattle.edits.specs.Search.{own_place, parent_from};
-ghost use Rattle.edits.specs.Edits.{where_of, target_of, is_parented, has_room, spot_in, put_outcome, insert_at, insert_outcome, delete_at, delete_outcome, apply_outcome};
+ghost use Rattle.edits.specs.Edits.{where_of, target_of, is_parented, has_room, spot_in, put_outcome, insert_outcome, delete_outcome, apply_outcome};
+ghost use Rattle.edits.specs.Plans.{bytes_of, name_of, entry_of, AreCodes};
 
 mod search;
 
 use answers::Refusal;
 use codes::Code;
-use registers::{DEEPEST, ENTRY, Entry, Found, MOST, Name, end_place, entry_place, parent_place, start_place};
+use registers::{
+    DEEPEST, ENTRY, Entry, Found, MOST, Name, Sound, end_place, entry_place, parent_place,
+    start_place,
+};
+use search::{Downward, Upward};
 
-// Where an entry is put in, with the identity of its target.
-#[derive(Clone, Copy)]
+/// Where an entry is put in, with the identity of its target.
+// It stays an enum of four cases that each hold the target: the case is the place, and `apply` promises by it.
+#[derive(Clone, Copy, Debug, PartialEq, Eq)]
 pub enum Place {
     FirstChildOf(u32),
     LastChildOf(u32),
@@ -33,7 +40,8 @@ pub enum Place {
     After(u32),
 }
 
-#[derive(Clone, Copy)]
+/// One edit of a register.
+#[derive(Clone, Copy, Debug, PartialEq, Eq)]
 pub enum Edit {
     Insert {
         place: Place,
@@ -45,6 +53,13 @@ pub enum Edit {
     },
 }
 
+// An insertion that is not refused: the place of the new entry, and the entry.
+#[derive(Clone, Copy)]
+struct Planned {
+    place: usize,
+    entry: Entry,
+}
+
 // Where the codes on both sides of a place stand.
 #[derive(Clone, Copy)]
 struct Gap {
@@ -52,49 +67,46 @@ struct Gap {
     right: usize,
 }
 
-// Puts one entry in or takes one leaf out, and answers its place. An insertion refuses 5, 6, 7, 3, 10, 4, 8, a deletion 5, 6, 7, 9.
+/// Puts one entry in or takes one leaf out, and answers its place. An insertion refuses 5, 6, 7, 3, 10, 4, 8, a deletion 5, 6, 7, 9.
+#[tactic(auto, unfolding(crate::specs::Edits::insert_outcome, crate::specs::Edits::delete_outcome))]
 pub fn apply(register: &mut [u8], edit: Edit) -> Result<usize, Refusal>
     ensures answer { result ≡ (apply_outcome register.old edit).answer }
     ensures bytes { register.new ≡ (apply_outcome register.old edit).bytes }
 {
+    let sound = Sound::check(register)?;
     match edit {
         Edit::Insert {
             place,
             identity,
             tag,
-        } => insert(register, place, identity, tag),
-        Edit::Delete { target } => delete(register, target),
+        } => {
+            let new = plan_insertion(&sound, place, Name { identity, tag })?;
+            put_in(register, new.place, &new.entry);
+            Ok(new.place)
+        }
+        Edit::Delete { target } => {
+            let at = plan_deletion(&sound, target)?;
+            take_out(register, at);
+            Ok(at)
+        }
     }
 }
 
-fn insert(register: &mut [u8], place: Place, identity: u32, tag: u32) -> Result<usize, Refusal>
-    ensures answer { result
-        ≡ (insert_outcome register.old (where_of place) (target_of place) (record { identity = identity; tag = tag })).answer }
-    ensures bytes { register.new
-        ≡ (insert_outcome register.old (where_of place) (target_of place) (record { identity = identity; tag = tag })).bytes }
+// An insertion as a place and an entry. Refuses 6, 7, 3, 10, 4, 8.
+#[tactic(auto, unfolding(crate::specs::Edits::insert_outcome))]
+fn plan_insertion(register: &Sound, place: Place, name: Name) -> Result<Planned, Refusal>
+    ensures ok { IfOk result (λ p. insert_outcome (bytes_of register.now) (where_of place) (target_of place) (name_of name)
+        ≡ accepted p.place (inserted_bytes (bytes_of register.now) p.place (entry_of p.entry))) }
+    ensures fits { IfOk result (λ p. (has_room (bytes_of register.now) ≡ true)
+        × (p.place ≤ count_of (bytes_of register.now)) × AreCodes p.entry) }
+    ensures err { IfErr result (λ r. insert_outcome (bytes_of register.now) (where_of place) (target_of place) (name_of name)
+        ≡ refused r (bytes_of register.now)) }
 {
-    if !registers::sound(register) {
-        return Err(Refusal::Register);
-    }
-    let Found::At(at) = registers::find(register, target_of(place)) else {
-        return Err(Refusal::Target);
-    };
-    insert_at(register, place, at, identity, tag)
-}
-
-// An insertion whose target is entry `at`. Refuses 7, 3, 10, 4, 8.
-fn insert_at(register: &mut [u8], place: Place, at: usize, identity: u32, tag: u32) -> Result<usize, Refusal>
-    requires sound { is_register_sound register.old ≡ true }
-    requires at { at < count_of register.old }
-    ensures answer { result
-        ≡ (insert_at register.old (where_of place) at (record { identity = identity; tag = tag })).answer }
-    ensures bytes { register.new
-        ≡ (insert_at register.old (where_of place) at (record { identity = identity; tag = tag })).bytes }
-{
-    if !parented(place, at) {
+    let at = found(register, place.target())?;
+    if !place.is_parented(at) {
         return Err(Refusal::Root);
     }
-    if !fresh(register, identity) {
+    if !fresh(register, name.identity) {
         return Err(Refusal::Identity);
     }
     if (DEEPEST as usize) < level(register, place, at) {
@@ -103,252 +115,214 @@ fn insert_at(register: &mut [u8], place: Place, at: usize, identity: u32, tag: u
     if !has_room(register) {
         return Err(Refusal::Room);
     }
-    put_in(register, place, at, identity, tag)
+    plan_at(register, place, at, name)
 }
 
-fn delete(register: &mut [u8], target: u32) -> Result<usize, Refusal>
-    ensures answer { result ≡ (delete_outcome register.old target).answer }
-    ensures bytes { register.new ≡ (delete_outcome register.old target).bytes }
+// A deletion as the place of the entry. Refuses 6, 7, 9.
+#[tactic(auto, unfolding(crate::specs::Edits::delete_outcome))]
+fn plan_deletion(register: &Sound, target: u32) -> Result<usize, Refusal>
+    ensures ok { IfOk result (λ i. delete_outcome (bytes_of register.now) target ≡ accepted i (deleted_bytes (bytes_of register.now) i)) }
+    ensures fits { IfOk result (λ i. i < count_of (bytes_of register.now)) }
+    ensures err { IfErr result (λ r. delete_outcome (bytes_of register.now) target ≡ refused r (bytes_of register.now)) }
 {
-    if !registers::sound(register) {
-        return Err(Refusal::Register);
-    }
-    let Found::At(at) = registers::find(register, target) else {
-        return Err(Refusal::Target);
-    };
-    delete_at(register, at)
-}
-
-// A deletion whose target is entry `at`. Refuses 7, 9.
-fn delete_at(register: &mut [u8], at: usize) -> Result<usize, Refusal>
-    requires sound { is_register_sound register.old ≡ true }
-    requires at { at < count_of register.old }
-    ensures answer { result ≡ (delete_at register.old at).answer }
-    ensures bytes { register.new ≡ (delete_at register.old at).bytes }
-{
+    let at = found(register, target)?;
     if at == 0 {
         return Err(Refusal::Root);
     }
     if !search::leaf(register, at) {
         return Err(Refusal::Children);
     }
-    take_out(register, at);
     Ok(at)
 }
 
-// Puts an entry in at a place of entry `at`, with the codes between its neighbours. Refuses 8.
-fn put_in(register: &mut [u8], place: Place, at: usize, identity: u32, tag: u32) -> Result<usize, Refusal>
-    requires sound { is_register_sound register.old ≡ true }
-    requires at { at < count_of register.old }
+// The place of an edit's target. Refuses 6.
+fn found(register: &Sound, target: u32) -> Result<usize, Refusal>
+    ensures ok { IfOk result (λ i. (found_in (bytes_of register.now) target ≡ Found.At i) × (i < count_of (bytes_of register.now))) }
+    ensures err { IfErr result (λ r. (r ≡ Refusal.Target) × (found_in (bytes_of register.now) target ≡ Found.Nothing)) }
+{
+    // `Found` stays an enum of its own, taken apart by `let else`: the place of an identity, or that it has none.
+    let Found::At(at) = register.reading.find(target) else {
+        return Err(Refusal::Target);
+    };
+    Ok(at)
+}
+
+// The codes of a new entry between its neighbours, and its place. Refuses 8.
+fn plan_at(register: &Sound, place: Place, at: usize, name: Name) -> Result<Planned, Refusal>
+    requires at { at < count_of (bytes_of register.now) }
     requires parented { is_parented (where_of place) at ≡ true }
-    requires room { has_room register.old ≡ true }
-    ensures answer { result ≡ (put_outcome register.old (record { identity = identity; tag = tag })
-        (tree_in register.old) (spot_in register.old (where_of place) at)).answer }
-    ensures bytes { register.new ≡ (put_outcome register.old (record { identity = identity; tag = tag })
-        (tree_in register.old) (spot_in register.old (where_of place) at)).bytes }
+    ensures ok { IfOk result (λ p. put_outcome (bytes_of register.now) (name_of name)
+        (tree_in (bytes_of register.now)) (spot_in (bytes_of register.now) (where_of place) at)
+        ≡ accepted p.place (inserted_bytes (bytes_of register.now) p.place (entry_of p.entry))) }
+    ensures fits { IfOk result (λ p. (p.place ≤ count_of (bytes_of register.now)) × AreCodes p.entry) }
+    ensures err { IfErr result (λ r. put_outcome (bytes_of register.now) (name_of name)
+        (tree_in (bytes_of register.now)) (spot_in (bytes_of register.now) (where_of place) at)
+        ≡ refused r (bytes_of register.now)) }
 {
     let gap = neighbours(register, place, at);
-    let right = registers::code_at(register, gap.right);
-    let start = codes::step(registers::code_at(register, gap.left), right);
-    if Code::LONGEST < start.len() {
+    let right = register.reading.code_at(gap.right);
+    let start = fitting(codes::step(register.reading.code_at(gap.left), right))?;
+    let end = fitting(codes::step(start, right))?;
+    let parent = register.reading.code_at(place.parent_from(at));
+    Ok(Planned {
+        place: search::starts_below(register, gap.right),
+        entry: Entry {
+            name,
+            start,
+            end,
+            parent,
+        },
+    })
+}
+
+// A code that is no longer than codes may be. Refuses 8.
+fn fitting(code: Code) -> Result<Code, Refusal>
+    ensures ok { IfOk result (λ fit. (fit ≡ code) × (code.count ≤ longest)) }
+    ensures err { IfErr result (λ r. (r ≡ Refusal.CodeLength) × (longest < code.count)) }
+{
+    if Code::LONGEST < code.len() {
         return Err(Refusal::CodeLength);
     }
-    let end = codes::step(start, right);
-    if Code::LONGEST < end.len() {
-        return Err(Refusal::CodeLength);
-    }
-    let parent = registers::code_at(register, parent_from(place, at));
-    let i = search::starts_below(register, gap.right);
-    write_in(register, i, identity, tag, start, end, parent);
-    Ok(i)
+    Ok(code)
 }
 
 // The neighbours of a place: one is the target's own code, the other is found.
-fn neighbours(register: &[u8], place: Place, at: usize) -> Gap
-    requires sound { is_register_sound register.now ≡ true }
-    requires at { at < count_of register.now }
+#[tactic(auto, using(crate::proofs::PlaceLaws::sides))]
+fn neighbours(register: &Sound, place: Place, at: usize) -> Gap
+    requires at { at < count_of (bytes_of register.now) }
     requires parented { is_parented (where_of place) at ≡ true }
-    ensures codes { CodeAt register.now result.left × CodeAt register.now result.right }
-    ensures left { code_at register.now result.left ≡ left_of starts ends
-        (tree_in register.now) (spot_in register.now (where_of place) at) }
-    ensures right { code_at register.now result.right ≡ right_of starts ends
-        (tree_in register.now) (spot_in register.now (where_of place) at) }
+    ensures codes { CodeAt (bytes_of register.now) result.left × CodeAt (bytes_of register.now) result.right }
+    ensures left { code_at (bytes_of register.now) result.left ≡ left_of starts ends
+        (tree_in (bytes_of register.now)) (spot_in (bytes_of register.now) (where_of place) at) }
+    ensures right { code_at (bytes_of register.now) result.right ≡ right_of starts ends
+        (tree_in (bytes_of register.now)) (spot_in (bytes_of register.now) (where_of place) at) }
 {
-    let own = own_place(place, at);
-    let up = upward(place);
-    let other = search::nearest(register, own, up);
-    if up {
-        return Gap {
+    let own = place.own_place(at);
+    if place.is_upward() {
+        Gap {
             left: own,
-            right: other,
-        };
-    }
-    Gap {
-        left: other,
-        right: own,
+            right: search::nearest::<Upward>(register, own),
+        }
+    } else {
+        Gap {
+            left: search::nearest::<Downward>(register, own),
+            right: own,
+        }
     }
 }
 
-// Moves the entries from entry i on up by one, and leaves the new entry there.
-fn write_in(
-    register: &mut [u8],
-    i: usize,
-    identity: u32,
-    tag: u32,
-    start: Code,
-    end: Code,
-    parent: Code,
-)
+// Moves the entries from a place on up by one, and leaves the new entry there.
+fn put_in(register: &mut [u8], place: usize, entry: &Entry)
     requires sized { is_sized register.old ≡ true }
     requires room { has_room register.old ≡ true }
-    requires place { i ≤ count_of register.old }
-    requires codes { IsCode (digits_of start) × IsCode (digits_of end) × IsCode (digits_of parent) }
-    ensures bytes { register.new ≡ inserted_bytes register.old i
-        (record {
-          name = record { identity = identity; tag = tag };
-          start = digits_of start;
-          end = digits_of end;
-          parent = digits_of parent;
-        }) }
+    requires place { place ≤ count_of register.old }
+    requires codes { AreCodes entry.now }
+    ensures bytes { register.new ≡ inserted_bytes register.old place (entry_of entry.now) }
 {
     let n = registers::count(register);
-    numbers::move_up(
-        register,
-        entry_place(i + 1),
-        entry_place(i),
-        ENTRY * (n - i),
-    );
-    let entry = Entry {
-        name: Name { identity, tag },
-        start,
-        end,
-        parent,
-    };
-    registers::write_entry(register, i, &entry);
+    register.copy_within(entry_place(place)..entry_place(n), entry_place(place + 1));
+    registers::write_entry(register, place, entry);
     registers::write_header(register, n + 1);
 }
 
-// Moves the entries behind entry i down by one, and clears what the last leaves.
-fn take_out(register: &mut [u8], i: usize)
+// Moves the entries behind a place down by one, and clears what the last leaves.
+fn take_out(register: &mut [u8], place: usize)
     requires sized { is_sized register.old ≡ true }
-    requires place { i < count_of register.old }
-    ensures bytes { register.new ≡ deleted_bytes register.old i }
+    requires place { place < count_of register.old }
+    ensures bytes { register.new ≡ deleted_bytes register.old place }
 {
     let n = registers::count(register);
-    numbers::move_down(
-        register,
-        entry_place(i),
-        entry_place(i + 1),
-        ENTRY * (n - 1 - i),
-    );
-    numbers::clear(register, entry_place(n - 1), ENTRY);
+    let last = entry_place(n - 1);
+    register.copy_within(entry_place(place + 1)..entry_place(n), entry_place(place));
+    register[last..last + ENTRY].fill(0);
     registers::write_header(register, n - 1);
 }
 
 // An identity that is not 0 and no entry's.
-fn fresh(register: &[u8], identity: u32) -> bool
-    requires sized { is_sized register.now ≡ true }
-    ensures fresh { result ≡ is_fresh identity (identities (lines_of register.now)) }
+#[tactic(auto, using(crate::proofs::OutcomeLaws::freshness))]
+fn fresh(register: &Sound, identity: u32) -> bool
+    ensures fresh { result ≡ is_fresh identity (identities (lines_of (bytes_of register.now))) }
 {
-    if identity == 0 {
-        return false;
-    }
-    match registers::find(register, identity) {
-        Found::At(_) => false,
-        Found::Nothing => true,
-    }
+    identity != 0 && matches!(register.reading.find(identity), Found::Nothing)
 }
 
 // Fewer than the most entries, and room for one more.
-fn has_room(register: &[u8]) -> bool
-    requires sized { is_sized register.now ≡ true }
-    ensures room { result ≡ has_room register.now }
+fn has_room(register: &Sound) -> bool
+    ensures room { result ≡ has_room (bytes_of register.now) }
 {
-    let n = registers::count(register);
-    if n < MOST {
-        return entry_place(n + 1) <= register.len();
-    }
-    false
+    let n = register.reading.count();
+    n < MOST && entry_place(n + 1) <= register.reading.bytes.len()
 }
 
 // The depth of an entry at a place of entry `at`.
-fn level(register: &[u8], place: Place, at: usize) -> usize
-    requires sound { is_register_sound register.now ≡ true }
-    requires at { at < count_of register.now }
-    ensures level { result ≡ level_at (tree_in register.now)
-        (spot_in register.now (where_of place) at) }
+fn level(register: &Sound, place: Place, at: usize) -> usize
+    requires at { at < count_of (bytes_of register.now) }
+    ensures level { result ≡ level_at (tree_in (bytes_of register.now))
+        (spot_in (bytes_of register.now) (where_of place) at) }
 {
-    let depth = registers::depth_at(register, at);
-    if inside(place) {
-        return depth + 1;
-    }
-    depth
+    register.depth_at(at) + usize::from(place.is_inside())
 }
 
-// Only before and after the root, entry 0, an entry would have no parent.
-fn parented(place: Place, at: usize) -> bool
-    ensures parented { result ≡ is_parented (where_of place) at }
-{
-    if inside(place) {
-        return true;
+impl Place {
+    // The identity of the entry that it is named by.
+    fn target(self) -> u32
+        ensures target { result ≡ target_of self }
+    {
+        match self {
+            Place::FirstChildOf(target)
+            | Place::LastChildOf(target)
+            | Place::Before(target)
+            | Place::After(target) => target,
+        }
     }
-    0 < at
-}
 
-fn target_of(place: Place) -> u32
-    ensures target { result ≡ target_of place }
-{
-    match place {
-        Place::FirstChildOf(target) => target,
-        Place::LastChildOf(target) => target,
-        Place::Before(target) => target,
-        Place::After(target) => target,
+    // Among the children of its target.
+    fn is_inside(self) -> bool
+        ensures inside { result ≡ is_inside (where_of self) }
+    {
+        match self {
+            Place::FirstChildOf(_) | Place::LastChildOf(_) => true,
+            Place::Before(_) | Place::After(_) => false,
+        }
     }
-}
 
-fn inside(place: Place) -> bool
-    ensures inside { result ≡ is_inside (where_of place) }
-{
-    match place {
-        Place::FirstChildOf(_) => true,
-        Place::LastChildOf(_) => true,
-        Place::Before(_) => false,
-        Place::After(_) => false,
+    // Only before and after the root, entry 0, an entry would have no parent.
+    fn is_parented(self, at: usize) -> bool
+        ensures parented { result ≡ is_parented (where_of self) at }
+    {
+        self.is_inside() || 0 < at
     }
-}
 
-// The target's own code is the left neighbour, and the other lies upward.
-fn upward(place: Place) -> bool
-    ensures upward { result ≡ is_upward (where_of place) }
-{
-    match place {
-        Place::FirstChildOf(_) => true,
-        Place::LastChildOf(_) => false,
-        Place::Before(_) => false,
-        Place::After(_) => true,
+    // The target's own code is the left neighbour, and the other lies upward.
+    fn is_upward(self) -> bool
+        ensures upward { result ≡ is_upward (where_of self) }
+    {
+        match self {
+            Place::FirstChildOf(_) | Place::After(_) => true,
+            Place::LastChildOf(_) | Place::Before(_) => false,
+        }
     }
-}
 
-// The target's own code that is next to the place.
-fn own_place(place: Place, at: usize) -> usize
-    requires most { at ≤ most_entries }
-    ensures place { result ≡ own_place (where_of place) at }
-{
-    match place {
-        Place::FirstChildOf(_) => start_place(at),
-        Place::LastChildOf(_) => end_place(at),
-        Place::Before(_) => start_place(at),
-        Place::After(_) => end_place(at),
+    // Where the target's own code stands that is next to the place.
+    fn own_place(self, at: usize) -> usize
+        requires most { at ≤ most_entries }
+        ensures place { result ≡ own_place (where_of self) at }
+    {
+        match self {
+            Place::FirstChildOf(_) | Place::Before(_) => start_place(at),
+            Place::LastChildOf(_) | Place::After(_) => end_place(at),
+        }
     }
-}
 
-// Where the parent start of an entry at the place is found.
-fn parent_from(place: Place, at: usize) -> usize
-    requires most { at ≤ most_entries }
-    ensures place { result ≡ parent_from (where_of place) at }
-{
-    if inside(place) {
-        return start_place(at);
+    // Where the parent start of an entry at the place is found.
+    fn parent_from(self, at: usize) -> usize
+        requires most { at ≤ most_entries }
+        ensures place { result ≡ parent_from (where_of self) at }
+    {
+        if self.is_inside() {
+            start_place(at)
+        } else {
+            parent_place(at)
+        }
     }
-    parent_place(at)
 }

@@ -1,4 +1,4 @@
--- `starts_below` meets its contract. The loop's invariant: all lines before line i start below the code. Assumes nothing.
+-- `starts_below` meets its contract: all lines before line i start below the code. Assumes nothing.
 use mathlib.Core.Path.{sym, ap, ◌∙◌, subst}
 use native.Mathlib.Omega.{arith}
 use Rattle.digits.specs.Order.{is_below}
@@ -9,35 +9,32 @@ use Rattle.edits.proofs.SearchLaws.{leading_next, leading_stop}
 use Rattle.edits.proofs.search.starts_below.Goals as goal
 
 pub start_place-requires : goal.start_place-requires
-start_place-requires c = record { most = omega (arith, (sized_of _ c.requires.sound).most, c.loop-i.invariant.1) }
+start_place-requires c = record { most = omega (arith, (sized_of _ c.args.register.now.sound).most, c.loop-i.invariant.counted) }
 
 pub fields_below-requires : goal.fields_below-requires
 fields_below-requires c = record {
-  codes = let b = c.args.register.now in (
+  codes = let b = c.args.register.now.reading.bytes.now in (
     subst (CodeAt b) (sym c.start_place.ensures.place)
-        (codes_at b c.requires.sound c.loop-i.i (omega (arith, c.loop-i.invariant.1))).start_at_lem,
+        (codes_at b c.args.register.now.sound c.loop-i.i (omega (arith, c.loop-i.invariant.counted))).start_at_lem,
     c.requires.code,
   );
 }
 
-pub returns-then-not-fields_below : goal.returns-then-not-fields_below
-returns-then-not-fields_below c = let b = c.args.register.now in
+pub returns-then-not-fields_below-clause-starts : goal.returns-then-not-fields_below-clause-starts
+returns-then-not-fields_below-clause-starts c = let b = c.args.register.now.reading.bytes.now in
     let r = code_at b c.args.at in
-    let s = leading_stop b r c.requires.sound c.loop-i.i (omega (arith, c.loop-i.invariant.1))
+    let s = leading_stop b r c.args.register.now.sound c.loop-i.i (omega (arith, c.loop-i.invariant.counted))
     (ap (λ z. is_below (code_at b z) r) (sym c.start_place.ensures.place) ∙ sym c.fields_below.ensures.below
     ∙ c.if-not-fields_below.true) in
-    record {
-      starts = omega (arith, s, c.loop-i.invariant.2);
-      most = omega (arith, c.loop-i.invariant.1);
-    }
+    omega (arith, s, c.loop-i.invariant.left)
 
 pub loop-i-preserved : goal.loop-i-preserved
-loop-i-preserved c = let b = c.args.register.now in
-    let r = code_at b c.args.at in (
-      omega arith,
-      c.loop-i.invariant.1,
-      c.loop-i.invariant.2
-          ∙ leading_next b r c.requires.sound c.loop-i.i (omega (arith, c.loop-i.invariant.1))
+loop-i-preserved c = let b = c.args.register.now.reading.bytes.now in
+    let r = code_at b c.args.at in record {
+      counted = c.loop-i.invariant.counted;
+      left =
+          c.loop-i.invariant.left
+          ∙ leading_next b r c.args.register.now.sound c.loop-i.i (omega (arith, c.loop-i.invariant.counted))
           (ap (λ z. is_below (code_at b z) r) (sym c.start_place.ensures.place) ∙ sym c.fields_below.ensures.below
-          ∙ c.if-not-fields_below.false),
-    )
+          ∙ c.if-not-fields_below.false);
+    }

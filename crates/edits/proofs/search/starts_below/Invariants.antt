@@ -1,6 +1,6 @@
 -- `starts_below` meets its contract. The loop's invariant: all lines before line i start below the code. Assumes nothing.
 use mathlib.Core.Path.{◌≡◌}
-use Prim.Native.Nat.{◌+◌, ◌-◌, ◌≤◌}
+use Prim.Native.Nat.{◌+◌}
 use Rattle.trees.specs.Search.{leading}
 use Rattle.registers.specs.Entries.{code_at}
 use Rattle.registers.specs.Questions.{count_of, lines_of}
@@ -8,10 +8,7 @@ use Rattle.edits.proofs.SearchLaws.{leading_from}
 use Rattle.edits.proofs.search.starts_below.Given as goal
 
 abbrev pub invariant-loop-i : goal.invariant-loop-i
-invariant-loop-i l =
-    (l.i ≤ l.n) × (l.n ≡ count_of l.register)
-    × (leading (code_at l.register l.at) (lines_of l.register) ≡ l.i + leading_from l.register (code_at l.register l.at) l.i)
-
-abbrev pub decreases-loop-i : goal.decreases-loop-i
-decreases-loop-i l =
-    l.n - l.i
+invariant-loop-i l = record {
+  counted : l.n ≡ count_of l.register.reading.bytes.now;
+  left : leading (code_at l.register.reading.bytes.now l.at) (lines_of l.register.reading.bytes.now) ≡ l.i + leading_from l.register.reading.bytes.now (code_at l.register.reading.bytes.now l.at) l.i;
+}
