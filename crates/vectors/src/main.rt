@@ -245,6 +245,11 @@ fn unpacking(rt: &impl Print) -> io::Result<()> {
     called(rt, &cases, Code::unpack)
 }
 
+/// The code between two sides that come as a pair.
+fn between((left, right): (&[u8], &[u8]), field: &mut [u8]) -> Result<usize, Refusal> {
+    Code::between(left, right, field)
+}
+
 fn betweens(rt: &impl Print) -> io::Result<()> {
     let two = field_of(&[2])?;
     let three = field_of(&[3])?;
@@ -261,11 +266,7 @@ fn betweens(rt: &impl Print) -> io::Result<()> {
         Lent::new("between 31 bytes and open", (&[0; Code::FIELD - 1], &OPEN)),
         Lent::new("between open and 33 bytes", (&OPEN, &[0; Code::FIELD + 1])),
     ];
-    called(
-        rt,
-        &cases,
-        |(left, right), field| Code::between(left, right, field),
-    )
+    called(rt, &cases, between)
 }
 
 /// Both sides of 127 digits.
@@ -291,11 +292,7 @@ fn longest(rt: &impl Print) -> io::Result<()> {
             Code::FIELD - 1,
         ),
     ];
-    called(
-        rt,
-        &cases,
-        |(left, right), field| Code::between(left, right, field),
-    )
+    called(rt, &cases, between)
 }
 
 /// The packer updated where it stands: 223 again.
@@ -342,22 +339,12 @@ fn labelling(rt: &impl Print, alloc: Global) -> io::Result<()> {
     for (name, table, room) in cases {
         label(rt, alloc, name, table, room)?;
     }
-    table_of(rt, alloc, "table of 4096 rows", 4096, |row| row.min(1))?;
-    table_of(rt, alloc, "table of 4097 rows", 4097, |row| row.min(1))?;
-    table_of(
-        rt,
-        alloc,
-        "table of 64 rows, each one deeper",
-        64,
-        |row| row,
-    )?;
-    table_of(
-        rt,
-        alloc,
-        "table of 65 rows, each one deeper",
-        65,
-        |row| row,
-    )
+    let flat = |row: u32| if row == 0 { 0 } else { 1 };
+    table_of(rt, alloc, "table of 4096 rows", 4096, flat)?;
+    table_of(rt, alloc, "table of 4097 rows", 4097, flat)?;
+    let deeper = |row: u32| row;
+    table_of(rt, alloc, "table of 64 rows, each one deeper", 64, deeper)?;
+    table_of(rt, alloc, "table of 65 rows, each one deeper", 65, deeper)
 }
 
 /// Labels a table of n rows, of which each has the depth that is given for it.
@@ -475,7 +462,7 @@ fn registers_damaged(rt: &impl Print) -> io::Result<()> {
 
 /// All bytes as runs of equal ones, each in hexadecimal with its length, and a line end.
 fn runs(rt: &impl Print, bytes: &[u8]) -> io::Result<()> {
-    for run in bytes.chunk_by(|a, b| a == b) {
+    for run in bytes.chunk_by(|a, b| *a == *b) {
         print!(rt; " {:02x}*{}", run[0], run.len())?;
     }
     println!(rt)
