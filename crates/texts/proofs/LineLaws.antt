@@ -1,10 +1,12 @@
 -- Laws of the text of an entry: what a store leaves, the pieces put one behind the other, and how many bytes there are. Assumes nothing.
-use mathlib.Core.Path.{◌≡◌, ap, ◌∙◌}
+use mathlib.Core.Path.{◌≡◌, refl, ap, ◌∙◌}
 use mathlib.Core.List.{List, [], ◌∷◌, ◌++◌, append_assoc}
 use Prim.Native.Nat.{ℕ, ◌+◌, ◌/◌, ◌%◌, ◌≤◌, ◌<◌}
 use native.Mathlib.Nat.{zero-add}
 use native.Mathlib.Omega.{arith}
 use lib.ListN.{length, set, length-append}
+use lib.Seq.{drop-drop}
+use borrow.Rule.Slice.PartMut.{put_mid}
 use Rattle.numbers.specs.Bytes.{put, number_at}
 use Rattle.numbers.proofs.PutLaws.{put_one, put_put, put_snoc}
 use Rattle.labels.specs.Label.{start_at, end_at, parent_at}
@@ -12,6 +14,11 @@ use Rattle.registers.specs.Layout.{identity_at, tag_at, label_at, entry_place}
 use Rattle.registers.specs.Entries.{code_at, entry_at}
 use Rattle.texts.specs.Printed.{space, newline, digit_byte, decimal, code_text, entry_text}
 use Rattle.texts.proofs.DecimalLaws.{decimal_last, decimal_last_length}
+
+-- what `copy_from_slice` into a part leaves
+pub part_put : (xs : List ℕ) (at n : ℕ) {ys : List ℕ} (vs : List ℕ) → ys ≡ vs → length vs ≡ n → put_mid at n xs ys ≡ put xs at vs
+unfolding put
+part_put xs at n vs f e = rw (f, e, drop-drop n at xs) refl
 
 -- a text of one byte
 pub byte_stored : (out : List ℕ) (at b : ℕ) (text : List ℕ) → text ≡ b ∷ [] → at + length text ≤ length out

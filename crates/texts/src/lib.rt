@@ -1,7 +1,7 @@
 // The text of a register's entry, and the reading of a table's text.
 #![tactic(auto)]
 
-ghost use Rattle.std.specs.Prelude.{◌≡◌, true, ◌∷◌, [], ◌++◌, map, ◌+◌, ◌*◌, ◌≤◌, ◌<◌, length, drop};
+ghost use Rattle.std.specs.Prelude.{◌≡◌, true, ◌∷◌, [], ◌++◌, map, ◌+◌, ◌*◌, ◌≤◌, ◌<◌, length, MatchOption, SomeIff};
 ghost use Rattle.digits.specs.Lists.{All};
 ghost use Rattle.codes.specs.Code.{field_size};
 ghost use Rattle.codes.specs.Reading.{read, side_of};
@@ -10,8 +10,8 @@ ghost use Rattle.registers.specs.Layout.{entry_place, entry_size};
 ghost use Rattle.registers.specs.Entries.{code_at, entry_at};
 ghost use Rattle.texts.specs.Printed.{decimal, code_text, entry_text, refusal_text, digit_byte};
 ghost use Rattle.answers.specs.Number.{number_of};
-ghost use Rattle.texts.specs.Reading.{most_lines, number_limit, is_digit, longer, is_following, read_number, read_line, read_text};
-ghost use Rattle.texts.specs.Answers.{FoundIn, RowIn, lines_of};
+ghost use Rattle.texts.specs.Reading.{most_lines, longer, is_following, number, no_number, read_number, no_line, read_line, read_text};
+ghost use Rattle.texts.specs.Answers.{line_of, lines_of};
 
 use answers::Refusal;
 use codes::Code;
@@ -25,26 +25,17 @@ pub const MOST_TEXT: usize = 33 * MOST_LINES;
 // The most bytes of a printed line: two decimals of ten digits, three codes, a byte behind each.
 pub const LINE: usize = 2 * 11 + 3 * (Code::LONGEST + 1);
 
-// A decimal that was read and where the bytes behind it begin, or none.
+/// The numbers of a line.
 #[derive(Clone, Copy)]
-enum Decimal {
-    Found(u32, usize),
-    Missing,
+struct Row {
+    identity: u32,
+    tag: u32,
+    depth: u32,
 }
 
-// The numbers of a line that was read and where the bytes behind it begin, or none.
-#[derive(Clone, Copy)]
-enum Row {
-    Whole(u32, u32, u32, usize),
-    Broken,
-}
-
-// The number of rows of a text, or that it is not one of a table.
-#[derive(Clone, Copy)]
-pub enum Lines {
-    Rows(usize),
-    Unreadable,
-}
+/// A text is not one of a table.
+#[derive(Clone, Copy, Debug, PartialEq, Eq)]
+pub struct Unreadable;
 
 // Leaves the text of entry i at the front of `out` and answers its length.
 pub fn line(register: &[u8], i: usize, out: &mut [u8]) -> usize
@@ -141,117 +132,66 @@ pub fn refused(refusal: Refusal, out: &mut [u8]) -> usize
     number_at(out, 8, refusal.number(), b'\n')
 }
 
-// Reads the text of a table into the front of `table`: the numbers of every line before the first that is unreadable.
-pub fn read_table(text: &[u8], table: &mut [u32]) -> Lines
+/// Reads the text of a table into the front of `table`: the numbers of every line before the first that is unreadable. Answers the
+/// number of rows.
+#[tactic(auto, using(crate::proofs::TableLaws::reached))]
+pub fn read_table(text: &[u8], table: &mut [u32]) -> Result<usize, Unreadable>
     requires room { 3 * most_lines ≤ length table.old }
     ensures lines { result ≡ lines_of (read_text text.now) }
     ensures numbers { table.new ≡ put table.old 0 (read_text text.now).numbers }
 {
+    let mut rest = text;
     let mut n = 0;
-    let mut at = 0;
-    while at < text.len() {
+    while !rest.is_empty() {
         if n == MOST_LINES {
-            return Lines::Unreadable;
+            return Err(Unreadable);
         }
-        let Row::Whole(identity, tag, depth, next) = read_row(text, at) else {
-            return Lines::Unreadable;
-        };
-        write_row(table, 3 * n, identity, tag, depth);
+        let (row, behind) = read_row(rest).ok_or(Unreadable)?;
+        table[3 * n..3 * n + 3].copy_from_slice(&[row.identity, row.tag, row.depth]);
+        rest = behind;
         n += 1;
-        at = next;
     }
-    Lines::Rows(n)
+    Ok(n)
 }
 
-// Leaves the three numbers of a row at a place.
-fn write_row(table: &mut [u32], at: usize, identity: u32, tag: u32, depth: u32)
-    requires room { at + 3 ≤ length table.old }
-    ensures numbers { table.new ≡ put table.old at (identity ∷ tag ∷ depth ∷ []) }
+/// The numbers of the line at the front of a text, and the text behind it.
+#[tactic(auto, unfolding(crate::specs::Reading::read_line))]
+fn read_row(text: &[u8]) -> Option<(Row, &[u8])>
+    ensures row { MatchOption result (read_line text.now ≡ no_line) (λ p. read_line text.now ≡ line_of p.0 p.1.now) }
 {
-    table[at] = identity;
-    table[at + 1] = tag;
-    table[at + 2] = depth;
+    let (identity, rest) = read_number(text, b' ')?;
+    let (tag, rest) = read_number(rest, b' ')?;
+    let (depth, rest) = read_number(rest, b'\n')?;
+    let row = Row { identity, tag, depth };
+    Some((row, rest))
 }
 
-// The line that begins at a place.
-fn read_row(text: &[u8], at: usize) -> Row
-    requires within { at ≤ length text.now }
-    ensures row { RowIn text.now (read_line (drop at text.now)) result }
+/// The decimal at the front of a text with the byte `stop` behind it, and the text behind them.
+// std's `parse` takes a sign and leading zeros too, so that three tests more would stand here than in this loop.
+fn read_number(text: &[u8], stop: u8) -> Option<(u32, &[u8])>
+    ensures number { MatchOption result (read_number stop text.now ≡ no_number) (λ p. read_number stop text.now ≡ number p.0 p.1.now) }
 {
-    let Decimal::Found(identity, second) = read_number(text, at, b' ') else {
-        return Row::Broken;
-    };
-    let Decimal::Found(tag, third) = read_number(text, second, b' ') else {
-        return Row::Broken;
-    };
-    let Decimal::Found(depth, next) = read_number(text, third, b'\n') else {
-        return Row::Broken;
-    };
-    Row::Whole(identity, tag, depth, next)
-}
-
-// The decimal that begins at a place, with the byte `stop` behind it.
-fn read_number(text: &[u8], at: usize, stop: u8) -> Decimal
-    requires within { at ≤ length text.now }
-    ensures number { FoundIn text.now (read_number stop (drop at text.now)) result }
-{
-    if at == text.len() {
-        return Decimal::Missing;
+    let (&first, mut rest) = text.split_first()?;
+    if !first.is_ascii_digit() {
+        return None;
     }
-    let first = text[at];
-    if !is_digit(first) {
-        return Decimal::Missing;
-    }
-    let mut x = wide(first) - 48;
-    let mut i = at + 1;
-    while i < text.len() {
-        let b = text[i];
+    let mut x = u32::from(first - b'0');
+    while let Some((&b, behind)) = rest.split_first() {
         if b == stop {
-            return Decimal::Found(x as u32, i + 1);
+            return Some((x, behind));
         }
-        if !follows(x, b) {
-            return Decimal::Missing;
-        }
-        x = with_digit(x, b);
-        i += 1;
+        x = with_digit(x, b)?;
+        rest = behind;
     }
-    Decimal::Missing
+    None
 }
 
-// Whether a byte is that of a digit.
-fn is_digit(b: u8) -> bool
-    ensures digit { result ≡ is_digit b }
+/// The number with one digit more: none follows a leading zero, and none makes more than 32 bits.
+fn with_digit(x: u32, b: u8) -> Option<u32>
+    ensures longer { SomeIff result (is_following x b ≡ true) (longer x b) }
 {
-    if b < 48 {
-        return false;
+    if x == 0 || !b.is_ascii_digit() {
+        return None;
     }
-    b <= 57
-}
-
-// Whether a digit may follow the number so far: none follows a leading zero, and none makes more than 32 bits.
-fn follows(x: u64, b: u8) -> bool
-    requires small { x < number_limit }
-    ensures follows { result ≡ is_following x b }
-{
-    if is_digit(b) {
-        if 0 < x {
-            return with_digit(x, b) < 4294967296;
-        }
-    }
-    false
-}
-
-// The number so far with one digit more.
-fn with_digit(x: u64, b: u8) -> u64
-    requires digit { (x < number_limit) × (is_digit b ≡ true) }
-    ensures longer { result ≡ longer x b }
-{
-    x * 10 + (wide(b) - 48)
-}
-
-// The byte as a wider number.
-fn wide(x: u8) -> u64
-    ensures same { (result ≡ x) × (result < 256) }
-{
-    x as u64
+    x.checked_mul(10)?.checked_add(u32::from(b - b'0'))
 }
