@@ -37,7 +37,7 @@ struct Row {
 #[derive(Clone, Copy, Debug, PartialEq, Eq)]
 pub struct Unreadable;
 
-// Leaves the text of entry i at the front of `out` and answers its length.
+/// Leaves the text of entry i at the front of `out` and answers its length.
 pub fn line(register: &[u8], i: usize, out: &mut [u8]) -> usize
     requires entry { entry_place i + entry_size ≤ length register.now }
     requires room { LINE ≤ length out.old }
@@ -46,90 +46,122 @@ pub fn line(register: &[u8], i: usize, out: &mut [u8]) -> usize
     ensures fits { result ≤ LINE }
 {
     let from = HEADER + ENTRY * i;
-    let mut at = number_at(out, 0, numbers::read_u32(register, from + IDENTITY), b' ');
-    at = number_at(out, at, numbers::read_u32(register, from + TAG), b' ');
     let label = from + ENTRY_LABEL;
-    at = code_at(out, at, register, label + labels::START, b' ');
-    at = code_at(out, at, register, label + labels::END, b' ');
-    code_at(out, at, register, label + labels::PARENT, b'\n')
+    let mut line = Cursor { out, at: 0 };
+    line.number(numbers::read_u32(register, from + IDENTITY), b' ');
+    line.number(numbers::read_u32(register, from + TAG), b' ');
+    line.code(register, label + labels::START, b' ');
+    line.code(register, label + labels::END, b' ');
+    line.code(register, label + labels::PARENT, b'\n');
+    line.at
 }
 
-// Leaves a decimal and the byte behind it and answers where they end.
-fn number_at(out: &mut [u8], at: usize, x: u32, behind: u8) -> usize
-    requires room { at + length (decimal x) < length out.old }
-    ensures text { out.new ≡ put out.old at (decimal x ++ (behind ∷ [])) }
-    ensures end { result ≡ at + (length (decimal x) + 1) }
-{
-    let end = decimal_at(out, at, x);
-    out[end] = behind;
-    end + 1
-}
-
-// Leaves a decimal and answers where it ends; all digits but the last come first.
-fn decimal_at(out: &mut [u8], at: usize, x: u32) -> usize
-    requires room { at + length (decimal x) ≤ length out.old }
-    ensures text { out.new ≡ put out.old at (decimal x) }
-    ensures end { result ≡ at + length (decimal x) }
-{
-    if x < 10 {
-        out[at] = 48 + x as u8;
-        return at + 1;
-    }
-    let end = decimal_at(out, at, x / 10);
-    out[end] = 48 + (x % 10) as u8;
-    end + 1
-}
-
-// Leaves the digits of the code that a field holds, `-` where it holds none, and the byte behind, and answers where they end.
-fn code_at(out: &mut [u8], at: usize, register: &[u8], from: usize, behind: u8) -> usize
-    requires field { from + field_size ≤ length register.now }
-    requires room { at + length (code_text (code_at register.now from)) < length out.old }
-    ensures text { out.new ≡ put out.old at (code_text (code_at register.now from) ++ (behind ∷ [])) }
-    ensures end { result ≡ at + (length (code_text (code_at register.now from)) + 1) }
-{
-    let end = field_at(out, at, &register[from..from + Code::FIELD]);
-    out[end] = behind;
-    end + 1
-}
-
-// Leaves the digits of the code that a field holds, or `-`, and answers where they end.
-fn field_at(out: &mut [u8], at: usize, field: &[u8]) -> usize
-    requires room { at + length (code_text (side_of (read field.now))) ≤ length out.old }
-    ensures text { out.new ≡ put out.old at (code_text (side_of (read field.now))) }
-    ensures end { result ≡ at + length (code_text (side_of (read field.now))) }
-{
-    let mut digits = [0u8; Code::LONGEST];
-    let Ok(n) = Code::unpack(field, &mut digits) else {
-        out[at] = b'-';
-        return at + 1;
-    };
-    digits_at(out, at, &digits[..n])
-}
-
-// Leaves digits as text and answers where they end.
-fn digits_at(out: &mut [u8], at: usize, digits: &[u8]) -> usize
-    requires room { at + length digits.now ≤ length out.old }
-    requires small { All (λ d. d < 4) digits.now }
-    ensures text { out.new ≡ put out.old at (map digit_byte digits.now) }
-    ensures end { result ≡ at + length digits.now }
-{
-    let mut j = 0;
-    while j < digits.len() {
-        out[at + j] = 48 + digits[j];
-        j += 1;
-    }
-    at + j
-}
-
-// Leaves the line of a refusal at the front of `out` and answers its length.
+/// Leaves the line of a refusal at the front of `out` and answers its length.
 pub fn refused(refusal: Refusal, out: &mut [u8]) -> usize
     requires room { LINE ≤ length out.old }
     ensures text { out.new ≡ put out.old 0 (refusal_text (number_of refusal)) }
     ensures length { result ≡ length (refusal_text (number_of refusal)) }
     ensures fits { result ≤ LINE }
 {
-    numbers::copy(out, 0, b"refused ", 0, 8);
-    number_at(out, 8, refusal.number(), b'\n')
+    let mut line = Cursor { out, at: 0 };
+    line.bytes(b"refused ");
+    line.number(refusal.number(), b'\n');
+    line.at
+}
+
+/// A lent buffer and where the next byte goes.
+// std's `write!` says of the bytes that it leaves only where a String takes them, which needs a heap.
+#[derive(Drop)]
+struct Cursor<'a> {
+    out: &'a mut [u8],
+    at: usize,
+}
+
+impl<'a> Cursor<'a> {
+    ghost use Rattle.texts.specs.Cursor.{written, HasRoom, Within};
+
+    /// Leaves a decimal and the byte behind it.
+    #[tactic(auto, using(crate::proofs::CursorLaws::cursor))]
+    fn number(&mut self, x: u32, behind: u8)
+        requires room { HasRoom self.old 11 }
+        ensures text { self.new ≡ written self.old (decimal x ++ (behind ∷ [])) }
+        ensures few { Within self.old 11 self.new }
+    {
+        self.decimal(x);
+        self.byte(behind);
+    }
+
+    /// Leaves a decimal: all digits but the last come first.
+    #[tactic(auto, using(crate::proofs::CursorLaws::cursor))]
+    fn decimal(&mut self, x: u32)
+        requires room { HasRoom self.old (length (decimal x)) }
+        ensures text { self.new ≡ written self.old (decimal x) }
+        ensures same { self.new.out.ghost_name ≡ self.old.out.ghost_name }
+    {
+        if 10 <= x {
+            self.decimal(x / 10);
+        }
+        self.byte(b'0' + (x % 10) as u8);
+    }
+
+    /// Leaves the digits of the code whose field begins at a place, `-` where it holds none, and the byte behind.
+    #[tactic(auto, using(crate::proofs::CursorLaws::cursor))]
+    fn code(&mut self, register: &[u8], from: usize, behind: u8)
+        requires field { from + field_size ≤ length register.now }
+        requires room { HasRoom self.old 128 }
+        ensures text { self.new ≡ written self.old (code_text (code_at register.now from) ++ (behind ∷ [])) }
+        ensures few { Within self.old 128 self.new }
+    {
+        self.field(&register[from..from + Code::FIELD]);
+        self.byte(behind);
+    }
+
+    /// Leaves the digits of the code that a field holds, or `-`.
+    #[tactic(auto, using(crate::proofs::CursorLaws::cursor))]
+    fn field(&mut self, field: &[u8])
+        requires room { HasRoom self.old (length (code_text (side_of (read field.now)))) }
+        ensures text { self.new ≡ written self.old (code_text (side_of (read field.now))) }
+    {
+        let mut digits = [0u8; Code::LONGEST];
+        match Code::unpack(field, &mut digits) {
+            Ok(n) => self.digits(&digits[..n]),
+            Err(_) => self.byte(b'-'),
+        }
+    }
+
+    /// Leaves digits as text.
+    #[tactic(auto, using(crate::proofs::CursorLaws::cursor))]
+    fn digits(&mut self, digits: &[u8])
+        requires room { HasRoom self.old (length digits.now) }
+        requires small { All (λ d. d < 4) digits.now }
+        ensures text { self.new ≡ written self.old (map digit_byte digits.now) }
+    {
+        for &d in digits {
+            self.byte(b'0' + d);
+        }
+    }
+
+    /// Leaves a run of bytes.
+    #[tactic(auto, using(crate::proofs::CursorLaws::cursor))]
+    #[inline(always)]
+    fn bytes(&mut self, text: &[u8])
+        requires room { HasRoom self.old (length text.now) }
+        ensures text { self.new ≡ written self.old text.now }
+    {
+        self.out[self.at..self.at + text.len()].copy_from_slice(text);
+        self.at += text.len();
+    }
+
+    /// Leaves one byte.
+    #[tactic(auto, using(crate::proofs::CursorLaws::cursor))]
+    #[inline(always)]
+    fn byte(&mut self, b: u8)
+        requires room { HasRoom self.old 1 }
+        ensures text { self.new ≡ written self.old (b ∷ []) }
+    {
+        self.out[self.at] = b;
+        self.at += 1;
+    }
 }
 
 /// Reads the text of a table into the front of `table`: the numbers of every line before the first that is unreadable. Answers the
