@@ -5,8 +5,9 @@ use Prim.Native.Nat.{ℕ, zero, suc, ◌+◌, ◌-◌, ◌≤◌, ◌<◌}
 use native.Mathlib.Nat.{add-zero, zero-add, add_assoc}
 use native.Mathlib.Numerals.{add-one, add-two, add-three}
 use native.Mathlib.Omega.{arith}
-use lib.ListN.{length, take, drop, get_or, set, length-append, length-take, length-drop, take-append-drop, drop_of_length-le, get_or-append, length-set}
+use lib.ListN.{length, take, drop, get_or, set, replicate, length-replicate, length-append, length-take, length-drop, take-append-drop, drop_of_length-le, get_or-append, length-set}
 use lib.Seq.{set-append_left, length-take-le, take_all, take-nil, take-append-le, take_at, take-take, take-add, drop_at, drop-append-add, drop-drop, set_split, get_or-take, get_or-drop, sets, sets-eq}
+use Rattle.std.specs.List.{copy_within}
 use Rattle.numbers.specs.Bytes.{put}
 
 -- nothing put
@@ -155,3 +156,34 @@ put_snoc xs at vs v fits =
 pub put_set_front : (xs vs : List ℕ) (j v : ℕ) → j < length vs → set (put xs 0 vs) j v ≡ put xs 0 (set vs j v)
 unfolding put
 put_set_front xs vs j v h = rw (length-set vs j v) (set-append_left vs (drop (0 + length vs) xs) j v h)
+
+-- what calls of std leave, as runs put: a part `s[at..]` or `s[at..at + k]` copied into or filled, a part `s[..k]`, and a move
+module _ (xs : List ℕ) (at k : ℕ) (ys : List ℕ) where
+  pub put_copied : (vs : List ℕ) → k ≡ length vs → ys ≡ vs → take at xs ++ (ys ++ drop k (drop at xs)) ≡ put xs at vs
+  unfolding put
+  put_copied vs e h = rw (drop-drop k at xs, e, h) refl
+
+  pub put_filled : (n v : ℕ) → k ≡ n → at + n ≤ length xs → ys ≡ replicate (length (take k (drop at xs))) v
+      → take at xs ++ (ys ++ drop k (drop at xs)) ≡ put xs at (replicate n v)
+  put_filled n v e fits h =
+      let l : length (take k (drop at xs)) ≡ n = simp (length-take, length-drop) (omega arith) in
+      put_copied (replicate n v) (e ∙ sym (length-replicate n v)) (h ∙ ap (λ m. replicate m v) l)
+
+module _ (xs : List ℕ) (k : ℕ) (ys : List ℕ) where
+  pub put_copied_front : (vs : List ℕ) → k ≡ length vs → ys ≡ vs → ys ++ drop k xs ≡ put xs 0 vs
+  put_copied_front vs e h = put_copied xs 0 k ys vs e h
+
+  pub put_filled_front : (n v : ℕ) → k ≡ n → n ≤ length xs → ys ≡ replicate (length (take k xs)) v
+      → ys ++ drop k xs ≡ put xs 0 (replicate n v)
+  put_filled_front n v e fits h = put_filled xs 0 k ys n v e (omega arith) h
+
+pub put_moved : (xs : List ℕ) (to from e n : ℕ) (ys : List ℕ) → e ≡ from + n → from + n ≤ length xs
+    → ys ≡ copy_within xs from e to → ys ≡ put xs to (take n (drop from xs))
+unfolding put
+put_moved xs to from e n ys same fits h =
+    let d : e - from ≡ n = omega arith in
+    let l : length (take n (drop from xs)) ≡ n = simp (length-take, length-drop) (omega arith) in
+    h ∙ rw (d, l) (append_assoc (take to xs) (take n (drop from xs)) (drop (to + n) xs))
+
+-- all of these, and one run behind another
+pub ruleset runs = (put_copied, put_filled, put_copied_front, put_filled_front, put_moved, put_put)
