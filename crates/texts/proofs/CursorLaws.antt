@@ -4,15 +4,13 @@ use mathlib.Core.List.{List, [], ◌∷◌, ◌++◌}
 use Prim.Native.Nat.{ℕ, ◌+◌, ◌/◌, ◌%◌, ◌≤◌, ◌<◌}
 use native.Mathlib.Nat.{add_assoc, add-zero}
 use native.Mathlib.Omega.{arith}
-use lib.ListN.{length, set, length-append}
-use borrow.Rule.Slice.PartMut.{put_mid}
+use lib.ListN.{length, take, drop, set, length-append}
 use Rattle.numbers.specs.Bytes.{put}
-use Rattle.numbers.proofs.PutLaws.{put_nil, put_one, put_put, put_length}
+use Rattle.numbers.proofs.PutLaws.{put_copied, put_nil, put_one, put_put, put_length}
 use Rattle.texts.specs.declared.Cursor.{Cursor}
 use Rattle.texts.specs.Cursor.{written, HasRoom, Within}
 use Rattle.texts.specs.Printed.{decimal, digit_byte}
 use Rattle.texts.proofs.DecimalLaws.{decimal_one, one_length, decimal_last, decimal_last_length}
-use Rattle.texts.proofs.LineLaws.{part_put}
 
 -- the cursor with other bytes and another place
 abbrev pub moved : Cursor → List ℕ → ℕ → Cursor
@@ -23,10 +21,10 @@ pub byte_written : (c : Cursor) (b : ℕ) → HasRoom c 1 → moved c (set c.out
 unfolding written
 byte_written c b room = rw (put_one c.out.now c.at b (omega arith)) refl
 
-pub part_written : (c : Cursor) (n : ℕ) {ys : List ℕ} (xs : List ℕ) → ys ≡ xs → length xs ≡ n
-    → moved c (put_mid c.at n c.out.now ys) (c.at + length xs) ≡ written c xs
+pub part_written : (c : Cursor) (n : ℕ) {ys : List ℕ} (xs : List ℕ) → ys ≡ xs → n ≡ length xs
+    → moved c (take c.at c.out.now ++ (ys ++ drop n (drop c.at c.out.now))) (c.at + length xs) ≡ written c xs
 unfolding written
-part_written c n xs f e = ap (λ (bytes : List ℕ). moved c bytes (c.at + length xs)) (part_put c.out.now c.at n xs f e)
+part_written c n {ys} xs f e = ap (λ (bytes : List ℕ). moved c bytes (c.at + length xs)) (put_copied c.out.now c.at n ys xs e f)
 
 -- where a text ends, what it leaves, and the room behind it
 module _ (c : Cursor) {d : Cursor} (xs : List ℕ) (e : d ≡ written c xs) where
@@ -47,9 +45,15 @@ module _ (c : Cursor) {d : Cursor} (xs : List ℕ) (e : d ≡ written c xs) wher
   more_written ys g room =
       g ∙ rw (e, put_put c.out.now c.at xs (omega arith) ys, length-append xs ys, add_assoc) refl
 
+  written_same : d.out.ghost_name ≡ c.out.ghost_name
+  unfolding written
+  written_same = ap (λ (d : Cursor). d.out.ghost_name) e
+
   -- so many bytes at most
   pub few_written : (n : ℕ) → length xs ≤ n → HasRoom c n → Within c n d
-  few_written n h room = let l = put_length c.out.now c.at xs (omega arith) in (omega (arith, written_end), omega (arith, ap length written_bytes, l))
+  few_written n h room =
+      let l = put_length c.out.now c.at xs (omega arith) in
+      (omega (arith, written_end), omega (arith, ap length written_bytes, l), written_same)
 
 pub nothing_written : (c : Cursor) → c ≡ written c []
 unfolding written
@@ -63,4 +67,4 @@ pub last_written : (c : Cursor) {d f : Cursor} (x : ℕ) → d ≡ written c (de
     → HasRoom c 0 → f ≡ written c (decimal x)
 last_written c x e f h room = more_written c (decimal (x / 10)) e (digit_byte (x % 10) ∷ []) f room ∙ rw (decimal_last x h) refl
 
-pub ruleset cursor = (byte_written, part_written, more_written, few_written)
+pub ruleset cursor = (byte_written, part_written, nothing_written, more_written, few_written)

@@ -13,4 +13,4 @@ written c text = record c { out = record c.out { now = put c.out.now c.at text }
 
 -- n bytes further at most, in the same buffer
 abbrev pub Within : Cursor → ℕ → Cursor → Type 0
-Within c n d = (d.at ≤ c.at + n) × (length d.out.now ≡ length c.out.now)
+Within c n d = (d.at ≤ c.at + n) × (length d.out.now ≡ length c.out.now) × (d.out.ghost_name ≡ c.out.ghost_name)

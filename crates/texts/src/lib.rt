@@ -96,7 +96,6 @@ impl<'a> Cursor<'a> {
     fn decimal(&mut self, x: u32)
         requires room { HasRoom self.old (length (decimal x)) }
         ensures text { self.new ≡ written self.old (decimal x) }
-        ensures same { self.new.out.ghost_name ≡ self.old.out.ghost_name }
     {
         if 10 <= x {
             self.decimal(x / 10);
@@ -147,6 +146,7 @@ impl<'a> Cursor<'a> {
     fn bytes(&mut self, text: &[u8])
         requires room { HasRoom self.old (length text.now) }
         ensures text { self.new ≡ written self.old text.now }
+        ensures few { Within self.old (length text.now) self.new }
     {
         self.out[self.at..self.at + text.len()].copy_from_slice(text);
         self.at += text.len();
