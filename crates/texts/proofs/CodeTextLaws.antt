@@ -5,13 +5,13 @@ use mathlib.Core.List.{List, [], ◌∷◌, ◌++◌, map}
 use Prim.Native.Nat.{ℕ, ◌+◌, ◌≤◌, ◌<◌}
 use native.Mathlib.Numerals.{add-one}
 use native.Mathlib.Omega.{arith}
-use lib.ListN.{length, take, get_or, set, length-map}
+use lib.ListN.{length, take, get_or, length-map}
 use lib.Seq.{take-suc, length-take-le}
 use Rattle.digits.specs.Lists.{All}
 use Rattle.digits.specs.Order.{Digits}
 use Rattle.answers.specs.declared.Refusal.{Refusal}
 use Rattle.numbers.specs.Bytes.{put}
-use Rattle.numbers.proofs.PutLaws.{put_run, put_length, put_snoc}
+use Rattle.numbers.proofs.PutLaws.{put_run, put_length}
 use Rattle.codes.specs.Code.{longest, IsCode}
 use Rattle.codes.specs.Reading.{Reading, code, empty, unsound, read, is_code_held, side_of}
 use Rattle.codes.specs.Calls.{unpack_outcome}

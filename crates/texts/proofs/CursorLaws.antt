@@ -10,7 +10,7 @@ use Rattle.numbers.proofs.PutLaws.{put_copied, put_nil, put_one, put_put, put_le
 use Rattle.texts.specs.declared.Cursor.{Cursor}
 use Rattle.texts.specs.Cursor.{written, HasRoom, Within}
 use Rattle.texts.specs.Printed.{decimal, digit_byte}
-use Rattle.texts.proofs.DecimalLaws.{decimal_one, one_length, decimal_last, decimal_last_length}
+use Rattle.texts.proofs.DecimalLaws.{decimal_one, decimal_last}
 
 -- the cursor with other bytes and another place
 abbrev pub moved : Cursor → List ℕ → ℕ → Cursor

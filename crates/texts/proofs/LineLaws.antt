@@ -1,10 +1,10 @@
 -- Laws of the text of an entry: a run behind one at the front, how long a piece is, and the five pieces. Assumes nothing.
 use mathlib.Core.Path.{◌≡◌, ap, ◌∙◌}
 use mathlib.Core.List.{List, [], ◌∷◌, ◌++◌, append_assoc}
-use Prim.Native.Nat.{ℕ, ◌+◌, ◌≤◌, ◌<◌}
+use Prim.Native.Nat.{ℕ, ◌+◌}
 use native.Mathlib.Nat.{zero-add}
 use native.Mathlib.Omega.{arith}
-use lib.ListN.{length, length-append}
+use lib.ListN.{length}
 use Rattle.numbers.specs.Bytes.{put, number_at}
 use Rattle.numbers.proofs.PutLaws.{put_put}
 use Rattle.labels.specs.Label.{start_at, end_at, parent_at}
@@ -12,10 +12,7 @@ use Rattle.registers.specs.Layout.{identity_at, tag_at, label_at, entry_place}
 use Rattle.registers.specs.Entries.{code_at, entry_at}
 use Rattle.texts.specs.declared.Cursor.{Cursor}
 use Rattle.texts.specs.Cursor.{written, HasRoom}
-use Rattle.texts.specs.Printed.{space, newline, decimal, code_text, entry_text}
-use Rattle.texts.specs.Reading.{number_limit}
-use Rattle.texts.proofs.DecimalLaws.{ten_digits}
-use Rattle.texts.proofs.CodeTextLaws.{side_length}
+use Rattle.texts.specs.Printed.{space, newline, decimal, code_text, entry_text, refusal_text}
 use Rattle.texts.proofs.CursorLaws.{more_written}
 
 -- a run behind one at the front
@@ -47,3 +44,9 @@ line_written c bytes i p q d e f g h room =
     let w = more_written c _ v _ f room in
     let x = more_written c _ w _ g room in
     more_written c _ x _ h room ∙ ap (written c) (entry_pieces bytes i _ _ p q)
+
+-- the line of a refusal
+pub refusal_written : (c : Cursor) {d e : Cursor} {x n : ℕ} → d ≡ written c (114 ∷ 101 ∷ 102 ∷ 117 ∷ 115 ∷ 101 ∷ 100 ∷ space ∷ [])
+    → e ≡ written d (decimal x ++ (newline ∷ [])) → x ≡ n → HasRoom c 0 → e ≡ written c (refusal_text n)
+unfolding refusal_text
+refusal_written c {d} {e} {x} f g q room = more_written c _ f _ g room ∙ ap (λ (n : ℕ). written c (refusal_text n)) q

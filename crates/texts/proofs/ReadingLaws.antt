@@ -1,14 +1,10 @@
 -- Laws of reading. Assumes nothing.
 use mathlib.Core.Path.{◌≡◌}
-use mathlib.Core.Bool.{true, false, ◌&&◌, and-eq-true_iff}
-use mathlib.Core.List.{List}
-use Prim.Native.Nat.{ℕ, ◌+◌, ◌-◌, ◌≤◌, ◌<◌}
-use native.Mathlib.Numerals.{add-one}
+use mathlib.Core.Bool.{true, ◌&&◌, and-eq-true_iff}
+use Prim.Native.Nat.{ℕ, ◌≤◌, ◌<◌}
 use lib.Dec.{ltb, leb}
-use lib.ListN.{length, drop, get_or, drop_of_length-le}
-use lib.Seq.{drop-cons}
-use borrow.Author.Tests.{lt-ltb, le-ltb, le-leb, lt-leb, eq-eqb, ne_eqb, leb-true, ltb-true}
-use Rattle.texts.specs.Reading.{number, no_number, is_digit, longer, is_following, number_limit, read_more, read_number}
+use borrow.Author.Tests.{lt-ltb, le-leb, leb-true, ltb-true}
+use Rattle.texts.specs.Reading.{is_digit, longer, is_following, number_limit}
 
 -- the byte of a digit
 pub digit_byte_lem : (b : ℕ) → 48 ≤ b → b ≤ 57 → is_digit b ≡ true

@@ -1,15 +1,15 @@
 -- Laws of the lines that are read: a line by its numbers, and how far a table's text has been read. Assumes nothing.
 use Rattle.std.specs.Prelude.{Ok, Err}
-use mathlib.Core.Path.{◌≡◌, refl, sym, ap, ◌∙◌, subst}
+use mathlib.Core.Path.{◌≡◌, refl, sym, ap, ◌∙◌}
 use mathlib.Core.Bool.{false}
 use mathlib.Core.List.{List, [], ◌∷◌, ◌++◌, append_assoc, append-nil}
-use Prim.Native.Nat.{ℕ, zero, suc, ◌+◌, ◌-◌, ◌*◌, ◌/◌, ◌≤◌, ◌<◌}
+use Prim.Native.Nat.{ℕ, zero, suc, ◌+◌, ◌-◌, ◌*◌, ◌/◌, ◌<◌}
 use native.Mathlib.Omega.{arith}
-use lib.ListN.{length, drop, length-append, length-drop, drop_of_length-le}
+use lib.ListN.{length, length-append}
 use Rattle.numbers.specs.Bytes.{put}
 use Rattle.numbers.proofs.PutLaws.{put_nil}
 use Rattle.texts.specs.Printed.{space, newline}
-use Rattle.texts.specs.Reading.{most_lines, Number, number, no_number, read_number, Line, line, no_line, read_line, Text, read_as, unreadable, read_lines, read_text}
+use Rattle.texts.specs.Reading.{most_lines, number, no_number, read_number, line, no_line, read_line, Text, read_as, unreadable, read_lines, read_text}
 use Rattle.texts.specs.Answers.{lines_of}
 use Rattle.texts.proofs.LineLaws.{put_behind}
 

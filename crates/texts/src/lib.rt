@@ -194,7 +194,11 @@ fn read_row(text: &[u8]) -> Option<(Row, &[u8])>
     let (identity, rest) = read_number(text, b' ')?;
     let (tag, rest) = read_number(rest, b' ')?;
     let (depth, rest) = read_number(rest, b'\n')?;
-    let row = Row { identity, tag, depth };
+    let row = Row {
+        identity,
+        tag,
+        depth,
+    };
     Some((row, rest))
 }
 

@@ -1,5 +1,4 @@
 -- `line` meets its contract: five pieces, each behind the one before. Assumes nothing.
-use mathlib.Core.Path.{◌≡◌, ◌∙◌}
 use native.Mathlib.Omega.{arith}
 use Rattle.std.proofs.Common.{rules}
 use Rattle.texts.proofs.CursorLaws.{written_end, written_bytes}

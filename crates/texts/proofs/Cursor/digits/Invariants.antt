@@ -1,8 +1,7 @@
 -- The loop's invariant: the digits up to the next one are written. Assumes nothing.
 use mathlib.Core.Path.{◌≡◌}
 use mathlib.Core.List.{map}
-use Prim.Native.Nat.{◌≤◌}
-use lib.ListN.{length, take}
+use lib.ListN.{take}
 use Rattle.texts.specs.Cursor.{written}
 use Rattle.texts.specs.Printed.{digit_byte}
 use Rattle.texts.proofs.Cursor.digits.Given as goal

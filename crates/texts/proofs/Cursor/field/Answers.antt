@@ -1,5 +1,5 @@
 -- `field` meets its contract: the digits that unpacking leaves, or `-` where it refuses. Assumes nothing.
-use mathlib.Core.Path.{◌≡◌, ap, sym, ◌∙◌}
+use mathlib.Core.Path.{ap, sym, ◌∙◌}
 use native.Mathlib.Omega.{arith}
 use lib.Seq.{length-take-le}
 use Rattle.texts.specs.Cursor.{written}
