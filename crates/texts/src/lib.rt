@@ -1,7 +1,7 @@
 // The text of a register's entry, and the reading of a table's text.
 #![tactic(auto)]
 
-ghost use Rattle.std.specs.Prelude.{◌≡◌, true, ◌∷◌, [], ◌++◌, map, ◌+◌, ◌*◌, ◌≤◌, ◌<◌, length, MatchOption, SomeIff};
+ghost use Rattle.std.specs.Prelude.{◌≡◌, true, ◌∷◌, [], ◌++◌, map, ◌+◌, ◌*◌, ◌≤◌, ◌<◌, length, IfOk, MatchOption, SomeIff};
 ghost use Rattle.digits.specs.Lists.{All};
 ghost use Rattle.codes.specs.Code.{field_size};
 ghost use Rattle.codes.specs.Reading.{read, side_of};
@@ -170,6 +170,7 @@ impl<'a> Cursor<'a> {
 pub fn read_table(text: &[u8], table: &mut [u32]) -> Result<usize, Unreadable>
     requires room { 3 * most_lines ≤ length table.old }
     ensures lines { result ≡ lines_of (read_text text.now) }
+    ensures few { IfOk result (λ n. n ≤ most_lines) }
     ensures numbers { table.new ≡ put table.old 0 (read_text text.now).numbers }
 {
     let mut rest = text;
