@@ -1,14 +1,14 @@
-// The text of a register's entry, and the reading of a table's text.
+//! The text of a register's entry, and the reading of a table's text.
 #![tactic(auto)]
 
-ghost use Rattle.std.specs.Prelude.{◌≡◌, true, ◌∷◌, [], ◌++◌, map, ◌+◌, ◌*◌, ◌≤◌, ◌<◌, length, IfOk, MatchOption, SomeIff};
+ghost use Rattle.std.specs.Prelude.{Some, ◌≡◌, true, ◌∷◌, [], ◌++◌, map, ◌+◌, ◌*◌, ◌≤◌, ◌<◌, length, IfOk, MatchOption, SomeIff};
 ghost use Rattle.digits.specs.Lists.{All};
 ghost use Rattle.codes.specs.Code.{field_size};
 ghost use Rattle.codes.specs.Reading.{read, side_of};
 ghost use Rattle.numbers.specs.Bytes.{put};
 ghost use Rattle.registers.specs.Layout.{entry_place, entry_size};
 ghost use Rattle.registers.specs.Entries.{code_at, entry_at};
-ghost use Rattle.texts.specs.Printed.{decimal, code_text, entry_text, refusal_text, digit_byte};
+ghost use Rattle.texts.specs.Printed.{decimal, code_text, entry_text, refusal_text, unreadable_text, digit_byte};
 ghost use Rattle.answers.specs.Number.{number_of};
 ghost use Rattle.texts.specs.Reading.{most_lines, longer, is_following, number, no_number, read_number, no_line, read_line, read_text};
 ghost use Rattle.texts.specs.Answers.{line_of, lines_of};
@@ -16,13 +16,16 @@ ghost use Rattle.texts.specs.Answers.{line_of, lines_of};
 use answers::Refusal;
 use codes::Code;
 use registers::{ENTRY, ENTRY_LABEL, HEADER, IDENTITY, TAG};
+use std::error::Error;
+use std::fmt;
 
-// The largest number of lines that are read, and the most bytes that they have.
+/// The largest number of lines that are read.
 pub const MOST_LINES: usize = 500;
 
+/// The most bytes that so many lines have.
 pub const MOST_TEXT: usize = 33 * MOST_LINES;
 
-// The most bytes of a printed line: two decimals of ten digits, three codes, a byte behind each.
+/// The most bytes of a printed line: two decimals of ten digits, three codes, a byte behind each.
 pub const LINE: usize = 2 * 11 + 3 * (Code::LONGEST + 1);
 
 /// The numbers of a line.
@@ -36,6 +39,17 @@ struct Row {
 /// A text is not one of a table.
 #[derive(Clone, Copy, Debug, PartialEq, Eq)]
 pub struct Unreadable;
+
+/// As the programs print it.
+impl fmt::Display for Unreadable {
+    ghost output = { λ _. Some unreadable_text };
+
+    fn fmt<W: fmt::Write>(&self, f: &mut fmt::Formatter<W>) -> fmt::Result {
+        write!(f, "unreadable")
+    }
+}
+
+impl Error for Unreadable {}
 
 /// Leaves the text of entry i at the front of `out` and answers its length.
 pub fn line(register: &[u8], i: usize, out: &mut [u8]) -> usize
@@ -70,7 +84,7 @@ pub fn refused(refusal: Refusal, out: &mut [u8]) -> usize
 }
 
 /// A lent buffer and where the next byte goes.
-// std's `write!` says of the bytes that it leaves only where a String takes them, which needs a heap.
+// By hand, since no clause says which bytes std's `write!` leaves in a slice: the clause `text` of `line` needs them, and a String a heap.
 #[derive(Drop)]
 struct Cursor<'a> {
     out: &'a mut [u8],
@@ -80,7 +94,7 @@ struct Cursor<'a> {
 impl<'a> Cursor<'a> {
     ghost use Rattle.texts.specs.Cursor.{written, HasRoom, Within};
 
-    /// Leaves a decimal and the byte behind it.
+    /// Leaves a decimal and the byte behind it, 11 bytes at most.
     #[tactic(auto, using(crate::proofs::CursorLaws::cursor))]
     fn number(&mut self, x: u32, behind: u8)
         requires room { HasRoom self.old 11 }
@@ -92,7 +106,6 @@ impl<'a> Cursor<'a> {
     }
 
     /// Leaves a decimal: all digits but the last come first.
-    #[tactic(auto, using(crate::proofs::CursorLaws::cursor))]
     fn decimal(&mut self, x: u32)
         requires room { HasRoom self.old (length (decimal x)) }
         ensures text { self.new ≡ written self.old (decimal x) }
@@ -103,7 +116,7 @@ impl<'a> Cursor<'a> {
         self.byte(b'0' + (x % 10) as u8);
     }
 
-    /// Leaves the digits of the code whose field begins at a place, `-` where it holds none, and the byte behind.
+    /// Leaves the digits of the code whose field begins at a place, `-` where it holds none, and the byte behind: 128 at most.
     #[tactic(auto, using(crate::proofs::CursorLaws::cursor))]
     fn code(&mut self, register: &[u8], from: usize, behind: u8)
         requires field { from + field_size ≤ length register.now }
@@ -116,7 +129,6 @@ impl<'a> Cursor<'a> {
     }
 
     /// Leaves the digits of the code that a field holds, or `-`.
-    #[tactic(auto, using(crate::proofs::CursorLaws::cursor))]
     fn field(&mut self, field: &[u8])
         requires room { HasRoom self.old (length (code_text (side_of (read field.now)))) }
         ensures text { self.new ≡ written self.old (code_text (side_of (read field.now))) }
@@ -204,7 +216,7 @@ fn read_row(text: &[u8]) -> Option<(Row, &[u8])>
 }
 
 /// The decimal at the front of a text with the byte `stop` behind it, and the text behind them.
-// std's `parse` takes a sign and leading zeros too, so that three tests more would stand here than in this loop.
+// By hand, since std's `parse` is no plainer: it takes a sign and leading zeros too, which three more tests would have to refuse.
 fn read_number(text: &[u8], stop: u8) -> Option<(u32, &[u8])>
     ensures number { MatchOption result (read_number stop text.now ≡ no_number) (λ p. read_number stop text.now ≡ number p.0 p.1.now) }
 {
