@@ -1,4 +1,4 @@
-// What the programs print: the lines of a register, the line of a refusal, a call's answer.
+//! What the programs print: the lines of a register, the line of a refusal, a call's answer.
 #![tactic(auto)]
 
 ghost use Rattle.std.specs.Prelude.{◌+◌, ◌≤◌, length};
@@ -9,18 +9,17 @@ use std::io;
 use std::io::Write;
 use texts::LINE;
 
-// Prints the lines of the first n entries.
+/// Prints the lines of the first n entries.
 pub fn lines(rt: &impl Print, register: &[u8], n: usize) -> io::Result<()>
     requires entries { entry_place n ≤ length register.now }
 {
-    let mut i = 0;
-    while i < n {
+    for i in 0..n {
         line(rt, register, i)?;
-        i += 1;
     }
     Ok(())
 }
 
+/// Prints the line of entry i.
 fn line(rt: &impl Print, register: &[u8], i: usize) -> io::Result<()>
     requires entry { entry_place i + entry_size ≤ length register.now }
 {
@@ -29,27 +28,27 @@ fn line(rt: &impl Print, register: &[u8], i: usize) -> io::Result<()>
     text(rt, &out[..n])
 }
 
-// Prints the line of a refusal.
+/// Prints the line of a refusal.
 pub fn refused(rt: &impl Print, refusal: Refusal) -> io::Result<()> {
     let mut out = [0u8; LINE];
     let n = texts::refused(refusal, &mut out);
     text(rt, &out[..n])
 }
 
-// Prints that what was read is no text of a table or no register of a size that is taken.
+/// Prints that what was read is no text of a table or no register of a size that is taken.
 pub fn unreadable(rt: &impl Print) -> io::Result<()> {
-    text(rt, b"unreadable\n")
+    println!(rt; "unreadable")
 }
 
-// Prints a call's answer: its number, or `refused` and the paper's number.
+/// Prints a call's answer: its number, or `refused` and the refusal's number.
 pub fn answered(rt: &impl Print, answer: Result<usize, Refusal>) -> io::Result<()> {
     match answer {
-        Ok(n) => print!(rt; " {n}")?,
-        Err(refusal) => print!(rt; " {refusal}")?,
+        Ok(n) => print!(rt; " {n};"),
+        Err(refusal) => print!(rt; " {refusal};"),
     }
-    text(rt, b";")
 }
 
+/// Prints bytes as they are.
 pub fn text(rt: &impl Print, bytes: &[u8]) -> io::Result<()> {
     io::writer(rt).write_all(bytes)
 }

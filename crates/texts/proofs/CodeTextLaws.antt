@@ -5,13 +5,13 @@ use mathlib.Core.List.{List, [], ◌∷◌, ◌++◌, map}
 use Prim.Native.Nat.{ℕ, ◌+◌, ◌≤◌, ◌<◌}
 use native.Mathlib.Numerals.{add-one}
 use native.Mathlib.Omega.{arith}
-use lib.ListN.{length, take, get_or, set, length-map}
+use lib.ListN.{length, take, get_or, length-map}
 use lib.Seq.{take-suc, length-take-le}
 use Rattle.digits.specs.Lists.{All}
 use Rattle.digits.specs.Order.{Digits}
 use Rattle.answers.specs.declared.Refusal.{Refusal}
 use Rattle.numbers.specs.Bytes.{put}
-use Rattle.numbers.proofs.PutLaws.{put_run, put_length, put_snoc}
+use Rattle.numbers.proofs.PutLaws.{put_run, put_length}
 use Rattle.codes.specs.Code.{longest, IsCode}
 use Rattle.codes.specs.Reading.{Reading, code, empty, unsound, read, is_code_held, side_of}
 use Rattle.codes.specs.Calls.{unpack_outcome}
@@ -78,29 +78,22 @@ module _ (field lent : List ℕ) (room : longest ≤ length lent) (answer : Resu
       go empty h = let w = unpack_none field lent (ap is_code_held h) in let z : ◌≡◌ {A = ℕ} 0 1 = cc in absurd (omega arith)
       go unsound h = let w = unpack_none field lent (ap is_code_held h) in let z : ◌≡◌ {A = ℕ} 0 1 = cc in absurd (omega arith)
 
--- what `digits_at` leaves is the code's text
-pub code_stored : (field : List ℕ) (n : ℕ) (left out mid : List ℕ) (at end : ℕ) → Unpacked field n left
-    → mid ≡ put out at (map digit_byte (take n left)) → end ≡ at + length (take n left)
-    → (mid ≡ put out at (code_text (side_of (read field)))) × (end ≡ at + length (code_text (side_of (read field))))
-code_stored field n left out mid at end u e f =
-    let d : code_text (side_of (read field)) ≡ map digit_byte (take n left) =
-    code_digits (side_of (read field)) u.coded ∙ ap (λ (x : Digits). map digit_byte x) (sym u.digits) in
-    (e ∙ ap (put out at) (sym d), omega (arith, f, ap length d, length-map (take n left) digit_byte))
+-- the digits that were unpacked, as text
+pub unpacked_text : (field : List ℕ) (n : ℕ) (left : List ℕ) → Unpacked field n left
+    → map digit_byte (take n left) ≡ code_text (side_of (read field))
+unpacked_text field n left u = rw u.digits (sym (code_digits (side_of (read field)) u.coded))
 
 pub unpacked_small : (field : List ℕ) (n : ℕ) (left : List ℕ) → Unpacked field n left → All (λ d. d < 4) (take n left)
 unpacked_small field n left u = rw u.digits (formed_quaternary (side_of (read field)) u.coded.formed)
 
 pub unpacked_length : (field : List ℕ) (n : ℕ) (left : List ℕ) → Unpacked field n left
     → length (take n left) ≡ length (code_text (side_of (read field)))
-unpacked_length field n left u =
-    ap length u.digits ∙ sym (ap length (code_digits (side_of (read field)) u.coded) ∙ length-map (side_of (read field)) digit_byte)
+unpacked_length field n left u = sym (length-map (take n left) digit_byte) ∙ ap length (unpacked_text field n left u)
 
--- a turn of `digits_at`
-pub digit_turn : (out : List ℕ) (at : ℕ) (x : List ℕ) (j : ℕ) → at + length x ≤ length out → j < length x
-    → set (put out at (map digit_byte (take j x))) (at + j) (digit_byte (get_or x j 0)) ≡ put out at (map digit_byte (take (j + 1) x))
-digit_turn out at x j fits h =
-    let front : List ℕ = map digit_byte (take j x) in
-    let l : length front ≡ j = length-map (take j x) digit_byte ∙ length-take-le j x (omega arith) in
-    let e : map digit_byte (take (j + 1) x) ≡ front ++ (digit_byte (get_or x j 0) ∷ []) =
-    ap (λ (y : List ℕ). map digit_byte y) (ap (λ (n : ℕ). take n x) (add-one j) ∙ take-suc x j 0 h) ∙ map_append digit_byte (take j x) _ in
-    rw e (rw l at (put_snoc out at front (digit_byte (get_or x j 0)) (omega arith)))
+-- one digit more
+pub digits_more : (x : List ℕ) (j : ℕ) → j < length x → map digit_byte (take (j + 1) x) ≡ map digit_byte (take j x) ++ (digit_byte (get_or x j 0) ∷ [])
+digits_more x j h =
+    ap (λ (y : List ℕ). map digit_byte y) (ap (λ (n : ℕ). take n x) (add-one j) ∙ take-suc x j 0 h) ∙ map_append digit_byte (take j x) _
+
+pub digits_length : (x : List ℕ) (j : ℕ) → j ≤ length x → length (map digit_byte (take j x)) ≡ j
+digits_length x j h = length-map (take j x) digit_byte ∙ length-take-le j x h

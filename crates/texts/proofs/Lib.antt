@@ -2,6 +2,7 @@
 pub mod DecimalLaws
 pub mod CodeTextLaws
 pub mod LineLaws
+pub mod CursorLaws
 pub mod ReadingLaws
 pub mod TableLaws
 pub mod NumberTextLaws

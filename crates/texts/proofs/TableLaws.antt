@@ -1,36 +1,17 @@
 -- Laws of the lines that are read: a line by its numbers, and how far a table's text has been read. Assumes nothing.
-use mathlib.Core.Path.{◌≡◌, refl, sym, ap, ◌∙◌, subst}
+use Rattle.std.specs.Prelude.{Ok, Err}
+use mathlib.Core.Path.{◌≡◌, refl, sym, ap, ◌∙◌}
 use mathlib.Core.Bool.{false}
 use mathlib.Core.List.{List, [], ◌∷◌, ◌++◌, append_assoc, append-nil}
-use Prim.Native.Nat.{ℕ, zero, suc, ◌+◌, ◌-◌, ◌*◌, ◌/◌, ◌≤◌, ◌<◌}
+use Prim.Native.Nat.{ℕ, zero, suc, ◌+◌, ◌-◌, ◌*◌, ◌/◌, ◌<◌}
 use native.Mathlib.Omega.{arith}
-use lib.ListN.{length, drop, length-append, length-drop, drop_of_length-le}
+use lib.ListN.{length, length-append}
 use Rattle.numbers.specs.Bytes.{put}
 use Rattle.numbers.proofs.PutLaws.{put_nil}
-use Rattle.texts.specs.declared.Decimal.{Decimal}
-use Rattle.texts.specs.declared.Decimal.TheVariants.{Found, Missing}
-use Rattle.texts.specs.declared.Row.{Row}
-use Rattle.texts.specs.declared.Row.TheVariants.{Whole, Broken}
-use Rattle.texts.specs.declared.Lines.TheVariants.{Rows, Unreadable}
 use Rattle.texts.specs.Printed.{space, newline}
-use Rattle.texts.specs.Reading.{most_lines, Number, number, no_number, read_number, Line, line, no_line, read_line, Text, read_as, unreadable, read_lines, read_text}
-use Rattle.texts.specs.Answers.{FoundIn, RowIn, lines_of}
+use Rattle.texts.specs.Reading.{most_lines, number, no_number, read_number, line, no_line, read_line, Text, read_as, unreadable, read_lines, read_text}
+use Rattle.texts.specs.Answers.{lines_of}
 use Rattle.texts.proofs.LineLaws.{put_behind}
-
--- an answer by its case
-pub found : (text : List ℕ) (n : Number) {r : Decimal} {x next : ℕ} → FoundIn text n r → r ≡ Found x next
-    → (n ≡ number x (drop next text)) × (next ≤ length text)
-found text n h e = subst (λ (r : Decimal). FoundIn text n r) e h
-
-pub missing : (text : List ℕ) (n : Number) {r : Decimal} → FoundIn text n r → r ≡ Missing → n ≡ no_number
-missing text n h e = subst (λ (r : Decimal). FoundIn text n r) e h
-
-pub whole : (text : List ℕ) (l : Line) {r : Row} {a b c next : ℕ} → RowIn text l r → r ≡ Whole a b c next
-    → (l ≡ line a b c (drop next text)) × (next ≤ length text)
-whole text l h e = subst (λ (r : Row). RowIn text l r) e h
-
-pub broken : (text : List ℕ) (l : Line) {r : Row} → RowIn text l r → r ≡ Broken → l ≡ no_line
-broken text l h e = subst (λ (r : Row). RowIn text l r) e h
 
 -- a line by its numbers
 module _ (bytes : List ℕ) where
@@ -74,27 +55,24 @@ lines_end : (k : ℕ) → read_lines k [] ≡ read_as []
 lines_end zero = refl
 lines_end (suc k) = refl
 
--- n lines have been read, up to the byte at `at`
-pub record Reached (text table₀ table : List ℕ) (n at : ℕ) : Type 0 where
+-- n lines have been read, up to the bytes `left`
+pub record Reached (text table₀ table : List ℕ) (n : ℕ) (left : List ℕ) : Type 0 where
   pub front : List ℕ
   pub count : length front ≡ 3 * n
   pub stored : table ≡ put table₀ 0 front
-  pub rest : read_text text ≡ behind front (read_lines (most_lines - n) (drop at text))
+  pub rest : read_text text ≡ behind front (read_lines (most_lines - n) left)
 
-pub reached_start : (text table : List ℕ) → Reached text table table 0 0
+pub reached_start : (text table : List ℕ) → Reached text table table 0 text
 unfolding read_text
 reached_start text table = record { front = []; count = refl; stored = sym (put_nil table 0); rest = refl }
 
-module _ {text table₀ table : List ℕ} {n at : ℕ} (r : Reached text table₀ table n at) where
-  left_length : at < length text → 0 < length (drop at text)
-  left_length h = rw (length-drop at text) (omega arith)
-
-  pub reached_next : {a b c next : ℕ} {table₁ : List ℕ} → n < most_lines
-      → read_line (drop at text) ≡ line a b c (drop next text) → table₁ ≡ put table (3 * n) (a ∷ b ∷ c ∷ [])
+module _ {text table₀ table : List ℕ} {n : ℕ} {left : List ℕ} (r : Reached text table₀ table n left) where
+  pub reached_next : {a b c : ℕ} {next table₁ : List ℕ} → n < most_lines
+      → read_line left ≡ line a b c next → table₁ ≡ put table (3 * n) (a ∷ b ∷ c ∷ [])
       → Reached text table₀ table₁ (n + 1) next
   reached_next {a} {b} {c} {next} h e f =
       let m : most_lines - n ≡ suc (most_lines - (n + 1)) = omega arith in
-      let l = lines_next (most_lines - (n + 1)) (drop at text) a b c (drop next text) e in
+      let l = lines_next (most_lines - (n + 1)) left a b c next e in
       record {
         front = r.front ++ (a ∷ b ∷ c ∷ []);
         count = omega (arith, length-append r.front (a ∷ b ∷ c ∷ []), r.count);
@@ -103,27 +81,28 @@ module _ {text table₀ table : List ℕ} {n at : ℕ} (r : Reached text table�
       }
 
   -- what is answered where reading ends: at the end of the text, behind the last line that is taken, at a line that is none
-  pub reached_end : length text ≤ at → (Rows n ≡ lines_of (read_text text)) × (table ≡ put table₀ 0 (read_text text).numbers)
-  reached_end h =
-      let d : drop at text ≡ [] = drop_of_length-le text {i = at} h in
+  pub reached_end : left ≡ [] → (Ok n ≡ lines_of (read_text text)) × (table ≡ put table₀ 0 (read_text text).numbers)
+  reached_end d =
       let e : read_text text ≡ read_as r.front = r.rest ∙ rw (d, lines_end, append-nil) in
       let q : n ≡ length r.front / 3 = omega (arith, r.count) in
-      (rw e (ap Rows q), rw e r.stored)
+      (rw e (ap Ok q), rw e r.stored)
 
-  stopped : read_lines (most_lines - n) (drop at text) ≡ unreadable
-      → (Unreadable ≡ lines_of (read_text text)) × (table ≡ put table₀ 0 (read_text text).numbers)
+  stopped : read_lines (most_lines - n) left ≡ unreadable
+      → (Err (record {}) ≡ lines_of (read_text text)) × (table ≡ put table₀ 0 (read_text text).numbers)
   stopped u =
       let e : read_text text ≡ record { numbers = r.front; readable = false } = r.rest ∙ rw (u, append-nil) in
-      (rw e, rw e r.stored)
+      (rw e refl, rw e r.stored)
 
-  pub reached_full : n ≡ most_lines → at < length text
-      → (Unreadable ≡ lines_of (read_text text)) × (table ≡ put table₀ 0 (read_text text).numbers)
+  pub reached_full : n ≡ most_lines → 0 < length left
+      → (Err (record {}) ≡ lines_of (read_text text)) × (table ≡ put table₀ 0 (read_text text).numbers)
   reached_full h k =
       let m : most_lines - n ≡ 0 = omega arith in
-      stopped (rw m (lines_full (drop at text) (left_length k)))
+      stopped (rw m (lines_full left k))
 
-  pub reached_broken : n < most_lines → at < length text → read_line (drop at text) ≡ no_line
-      → (Unreadable ≡ lines_of (read_text text)) × (table ≡ put table₀ 0 (read_text text).numbers)
+  pub reached_broken : n < most_lines → 0 < length left → read_line left ≡ no_line
+      → (Err (record {}) ≡ lines_of (read_text text)) × (table ≡ put table₀ 0 (read_text text).numbers)
   reached_broken h k e =
       let m : most_lines - n ≡ suc (most_lines - (n + 1)) = omega arith in
-      stopped (rw m (lines_broken (most_lines - (n + 1)) (drop at text) (left_length k) e))
+      stopped (rw m (lines_broken (most_lines - (n + 1)) left k e))
+
+pub ruleset reached = (reached_start, reached_next, reached_end, reached_full, reached_broken)

@@ -1,11 +1,12 @@
 -- Reading a text is exactly the inverse of printing a table; how long a text is. Assumes nothing.
+use Rattle.std.specs.Prelude.{Result, Ok, Err}
 use mathlib.Core.Path.{◌≡◌, refl, ap, subst, ◌∙◌}
 use mathlib.Core.Bool.{Bool, true, false, cond}
 use mathlib.Core.List.{List, [], ◌∷◌, ◌++◌}
 use Prim.Native.Nat.{ℕ, zero, suc, ◌+◌, ◌-◌, ◌*◌, ◌/◌, ◌≤◌, ◌<◌}
 use native.Mathlib.Omega.{arith}
 use lib.ListN.{length, length-append}
-use Rattle.texts.specs.declared.Lines.TheVariants.{Rows, Unreadable}
+use Rattle.texts.specs.declared.Unreadable.{Unreadable}
 use Rattle.texts.specs.Printed.{row_text, table_text}
 use Rattle.texts.specs.Reading.{most_lines, number_limit, Table, Line, line, no_line, read_line, Text, read_as, unreadable, behind_line, read_lines, read_text}
 use Rattle.texts.specs.Answers.{lines_of}
@@ -85,16 +86,16 @@ pub unreadable_unprinted : (text : List ℕ) → (read_text text).readable ≡ f
     → text ≡ table_text ns → ⊥
 unreadable_unprinted text e ns t p = not_readable (read_text text) ns e (ap read_text p ∙ read_printed ns t)
 
-rows_known : (t : Text) (n : ℕ) → Rows n ≡ lines_of t → (t ≡ read_as t.numbers) × (n ≡ length t.numbers / 3)
+rows_known : (t : Text) (n : ℕ) → Ok n ≡ lines_of t → (t ≡ read_as t.numbers) × (n ≡ length t.numbers / 3)
 rows_known t n e = go t.readable refl e
   where
-    go : (s : Bool) → t.readable ≡ s → Rows n ≡ cond s (Rows (length t.numbers / 3)) Unreadable
+    go : (s : Bool) → t.readable ≡ s → ◌≡◌ {A = Result ℕ Unreadable} (Ok n) (cond s (Ok (length t.numbers / 3)) (Err (record {})))
         → (t ≡ read_as t.numbers) × (n ≡ length t.numbers / 3)
     go true p q = (read_as_lem t p, cc)
     go false p q = let z : ◌≡◌ {A = ℕ} 0 1 = cc in absurd (omega arith)
 
 -- a text that is answered with a number of rows is the text of a table with so many rows
-pub rows_read : (text : List ℕ) (n : ℕ) → Rows n ≡ lines_of (read_text text) →
+pub rows_read : (text : List ℕ) (n : ℕ) → Ok n ≡ lines_of (read_text text) →
     let ns = (read_text text).numbers in
     (text ≡ table_text ns) × (length ns ≡ 3 * n) × (n ≤ most_lines)
 rows_read text n e =

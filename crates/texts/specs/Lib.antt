@@ -2,3 +2,4 @@
 pub mod Printed
 pub mod Reading
 pub mod Answers
+pub mod Cursor

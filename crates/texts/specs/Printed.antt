@@ -52,3 +52,7 @@ entry_text u =
 -- on a refusal: `refused`, a space and the number
 unfoldable pub refusal_text : ℕ → List ℕ
 refusal_text n = 114 ∷ 101 ∷ 102 ∷ 117 ∷ 115 ∷ 101 ∷ 100 ∷ space ∷ (decimal n ++ (newline ∷ []))
+
+-- of what is no text of a table
+abbrev pub unreadable_text : List ℕ
+unreadable_text = 117 ∷ 110 ∷ 114 ∷ 101 ∷ 97 ∷ 100 ∷ 97 ∷ 98 ∷ 108 ∷ 101 ∷ []
