@@ -50,7 +50,8 @@ impl Used {
             }
     }
 
-    /// Enters an identity that is not 0: whether it is new, or `None` where no place is free.
+    /// Enters an identity that is not 0: whether it is new, or `None` where no place is free. An `Option<bool>` says that with
+    /// no enum of its own: its one caller passes the `bool` on, and searches plainly at `None`.
     fn enter(&mut self, identity: u32) -> Option<bool>
         requires some { identity ≢ 0 }
         ensures entered { Entering self.old identity result self.new }

@@ -49,6 +49,7 @@ pub fn move_down(s: &mut [u8], to: usize, from: usize, n: usize)
 }
 
 /// Leaves `n` zeros from `at` on.
+#[inline(always)]
 #[tactic(auto, unfolding(crate::specs::Bytes::put))]
 pub fn clear(s: &mut [u8], at: usize, n: usize)
     requires fits { at + n ≤ length s.old }
