@@ -7,6 +7,7 @@ ghost use Rattle.codes.specs.Words.{word_at, blanks as blanks_of, full, ended, i
 use crate::spread::Code;
 
 /// A packed field.
+// Compared by words as they are needed: std's comparison of arrays is no memcmp, and was tried at 1.6 to 3.3 times plain Rust.
 pub type Field = [u8; Code::FIELD];
 
 // A 1 in each of a word's 32 digits.
@@ -133,6 +134,7 @@ fn sign(below: bool, above: bool) -> i32
 }
 
 /// Minus one, zero or plus one, as the left field is below the right one, the same or above it.
+// Order stays a small signed number, as the question on two labels answers it.
 #[inline(always)]
 pub fn compare(left: &Field, right: &Field) -> i32
     ensures order { result ≡ order_by left.now right.now }

@@ -20,6 +20,7 @@ pub use field::{Field, below, compare, holds_code, is_empty, same};
 pub use packer::{Packer, byte_after};
 pub use spread::{Code, lower_cut, step, upper_cut};
 
+// Associated functions without self, beside the constants of `Code`: that form stays by a rule of the project.
 impl Code {
     /// Packs digits into a lent field and answers their number. Refuses 12, 4.
     pub fn pack(digits: &[u8], field: &mut [u8]) -> Result<usize, Refusal>

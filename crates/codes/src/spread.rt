@@ -8,7 +8,8 @@ ghost use Rattle.codes.specs.Spread.{digits_of, made_of, cut_by, Held, Short, Fi
 use crate::field::Field;
 
 /// The first count of the digits; the rest counts for nothing. There is room for one more than a code may have.
-// `Short` and `Fit` stay clauses, and no invariant: the step may make 128 digits, which `Code::between` then refuses.
+// The array with its count stays: no heap, fixed memory. `Short` and `Fit` stay clauses, and no invariant: the step may make 128
+// digits, which `Code::between` then refuses, so that a type of at most 127 would need a second one beside it.
 #[derive(Clone, Copy)]
 pub struct Code {
     pub(crate) digits: [u8; Code::LONGEST + 1],

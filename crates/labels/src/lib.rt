@@ -12,13 +12,16 @@ use answers::Refusal;
 use codes::{Code, Field, below, compare, holds_code, is_empty, same};
 use std::marker::Model;
 
-/// Where a label's fields begin, and how many bytes it has.
+/// Where a label's start begins.
 pub const START: usize = 0;
 
+/// Where its end begins.
 pub const END: usize = START + Code::FIELD;
 
+/// Where its parent start begins.
 pub const PARENT: usize = END + Code::FIELD;
 
+/// How many bytes it has.
 pub const LABEL: usize = PARENT + Code::FIELD;
 
 /// A sound label where it lies: its three fields. To contracts it is its three codes.
@@ -62,6 +65,7 @@ impl<'a> Label<'a> {
     }
 
     /// Minus one, zero or plus one by start.
+    // Order stays a small signed number: the host program gets it so.
     #[inline(always)]
     pub fn order(&self, other: &Self) -> i32
         ensures order { result ≡ order_of self.now other.now }
