@@ -11,7 +11,7 @@ mod walk;
 
 use answers::Refusal;
 use identities::Used;
-use registers::{DEEPEST, ENTRY, HEADER, MOST};
+use registers::{DEEPEST, MOST};
 
 /// The numbers of a row: identity, tag, depth.
 pub const ROW: usize = 3;
@@ -32,7 +32,7 @@ pub fn label(table: &[u32], register: &mut [u8]) -> Result<usize, Refusal>
     ensures bytes { register.new ≡ (label_outcome table.now register.old).bytes }
 {
     let n = check(table)?;
-    let size = HEADER + ENTRY * n;
+    let size = registers::entry_place(n);
     if register.len() < size {
         return Err(Refusal::Room);
     }

@@ -36,6 +36,7 @@ impl<'a> Walk<'a> {
     ghost use Rattle.tables.specs.Walker.{walk_of, Same};
 
     /// Writes the codes of a gap along the tour. Each of its three parts is coded in the same way, and each is narrower.
+    // Left and right stay two arguments: each part has a side of its gap and a cut, so a struct would be made anew at each call.
     // The recursion stays: the rule of first codes cuts a gap by two codes, and each part in the same way.
     #[tactic(auto, using(crate::proofs::GapLaws::gaps))]
     fn gap(&mut self, left: Code, right: Code, width: usize)
