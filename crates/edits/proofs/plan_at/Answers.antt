@@ -7,13 +7,10 @@ use Rattle.trees.specs.Search.{leading}
 use Rattle.registers.specs.Questions.{lines_of}
 use Rattle.edits.specs.Edits.{where_of}
 use Rattle.edits.specs.Plans.{name_of}
-use Rattle.edits.proofs.PlaceLaws.{place_fits, parent_found}
+use Rattle.edits.proofs.PlaceLaws.{parent_found}
 use Rattle.edits.proofs.PlanLaws.{planned, planned_codes}
 use Rattle.edits.proofs.plan_at.Goals as goal
 use Rattle.edits.proofs.plan_at.Goals.{After-starts_below}
-
-pub parent_from-requires : goal.parent_from-requires
-parent_from-requires c = record { most = place_fits _ _ c.args.register.now.sound c.requires.at }
 
 pub code_at-parent-requires : goal.code_at-parent-requires
 code_at-parent-requires c = record {
