@@ -14,14 +14,14 @@ use lib.Signed.{mag}
 use mir.Syntax.{w32}
 use mir.Val.{SFits, to_z, of_z}
 use mir.Facts.{to_z_pos, to_z-of_z}
-use borrow.Author.Tests.{leb-true, eqb-true, le-leb, lt-leb, eq-eqb, ne_eqb}
+use borrow.Author.Tests.{leb-true, eqb-true, le-leb, eq-eqb, ne_eqb}
 use Rattle.digits.specs.Lists.{All}
 use Rattle.digits.specs.Order.{is_below}
 use Rattle.digits.proofs.ListLaws.{all_at}
 use Rattle.numbers.specs.Bytes.{number_at}
 use Rattle.codes.specs.Code.{IsCode}
 use Rattle.answers.specs.declared.Refusal.TheVariants.{Register, Target}
-use Rattle.answers.specs.Signed.{Signable}
+use Rattle.answers.specs.Signed.{signed_as, Signable}
 use Rattle.identities.specs.Identities.{is_among}
 use Rattle.identities.specs.Rows.{is_all_new}
 use Rattle.trees.specs.Labelled.{Name, Entry}
@@ -32,7 +32,7 @@ use Rattle.registers.specs.Layout.{most_entries, zero_at, header_size, entry_pla
 use Rattle.registers.specs.Entries.{entry_at, code_at}
 use Rattle.registers.specs.Holds.{identities}
 use Rattle.registers.specs.Sound.{is_sound_label, is_sound_labels, line_at, lines_from, is_tree, HasEntries}
-use Rattle.registers.specs.Questions.{count_of, lines_of, is_sized, is_register_sound, found_from, found_in, is_above_entry, depth_in, place_as, place_answer, depth_as, depth_result, distance_as, distance_result}
+use Rattle.registers.specs.Questions.{count_of, lines_of, is_sized, is_register_sound, found_from, found_in, is_above_entry, depth_in, place_as, place_answer, depth_as, depth_result, depth_answer, distance_as, distance_result, distance_answer}
 use Rattle.registers.proofs.SoundLaws.{SoundAt, sound_at, has_place, labels_all}
 use Rattle.registers.proofs.RowLaws.{line_start, line_end, line_parent, lines_length, lines_next}
 use Rattle.registers.proofs.BytesLaws.{coded_sound}
@@ -69,36 +69,16 @@ sized_gives b e =
       zeroed = eqb-true (number_at b zero_at) 0 f.1;
     }
 
-module _ (b : List ℕ) where
-  pub no_header : length b < header_size → false ≡ is_sized b
-  no_header h = rw (lt-leb header_size (length b) h) refl
-
-  module _ (h : header_size ≤ length b) where
-    pub no_count : count_of b < 1 → false ≡ is_sized b
-    no_count k = rw (le-leb header_size (length b) h, lt-leb 1 (count_of b) k) refl
-
-    module _ (k : 1 ≤ count_of b) where
-      pub much_count : most_entries < count_of b → false ≡ is_sized b
-      much_count m = rw (le-leb header_size (length b) h, le-leb 1 (count_of b) k, lt-leb (count_of b) most_entries m) refl
-
-      module _ (m : count_of b ≤ most_entries) where
-        pub no_room : length b < entry_place (count_of b) → false ≡ is_sized b
-        no_room r =
-            rw (
-              le-leb header_size (length b) h,
-              le-leb 1 (count_of b) k,
-              le-leb (count_of b) most_entries m,
-              lt-leb (entry_place (count_of b)) (length b) r,
-            ) refl
-
-        pub by_zero : entry_place (count_of b) ≤ length b → eqb (number_at b zero_at) 0 ≡ is_sized b
-        by_zero r =
-            rw (
-              le-leb header_size (length b) h,
-              le-leb 1 (count_of b) k,
-              le-leb (count_of b) most_entries m,
-              le-leb (entry_place (count_of b)) (length b) r,
-            ) refl
+-- a buffer in which all counted entries stand has a register's size exactly where the second number is zero
+pub by_zero : (b : List ℕ) → header_size ≤ length b → 1 ≤ count_of b → count_of b ≤ most_entries → entry_place (count_of b) ≤ length b
+    → eqb (number_at b zero_at) 0 ≡ is_sized b
+by_zero b h k m r =
+    rw (
+      le-leb header_size (length b) h,
+      le-leb 1 (count_of b) k,
+      le-leb (count_of b) most_entries m,
+      le-leb (entry_place (count_of b)) (length b) r,
+    ) refl
 
 pub sized_entries : (b : List ℕ) → Sized b → HasEntries b (count_of b)
 sized_entries b s = (s.most, s.room)
@@ -270,17 +250,11 @@ found_inside b x j e =
 abbrev pub depth_from : List ℕ → ℕ → ℕ → ℕ
 depth_from b j i = depth_in (line_at b j) (lines_from b i (count_of b - i))
 
-pub depth_all : (b : List ℕ) (j : ℕ) → depth_from b j 0 ≡ depth_in (line_at b j) (lines_of b)
-depth_all b j = let z : count_of b - 0 ≡ count_of b = omega arith in rw z refl
-
 pub depth_next : (b : List ℕ) (j i : ℕ) (t : Bool) → i < count_of b → t ≡ is_above_entry (line_at b i) (line_at b j)
     → depth_from b j i ≡ cond t 1 0 + depth_from b j (i + 1)
 depth_next b j i t h e =
     ap (depth_in (line_at b j)) (lines_next b (count_of b) i h) ∙ ap (λ (z : Bool). cond z 1 0 + depth_from b j (suc i)) (sym e)
     ∙ ap (λ (k : ℕ). cond t 1 0 + depth_from b j k) (sym (add-one i))
-
-pub depth_none : (b : List ℕ) (j i : ℕ) → i ≡ count_of b → depth_from b j i ≡ 0
-depth_none b j i e = let z : count_of b - count_of b ≡ 0 = omega arith in rw (e, z) refl
 
 depth_few : (v : Entry Name) (us : List (Entry Name)) → depth_in v us ≤ length us
 depth_few v [] = omega arith
@@ -333,18 +307,25 @@ module _ (b : List ℕ) (x : ℕ) where
   unfolding depth_result
   depth_unsound e = rw e refl
 
-  pub depth_found : is_register_sound b ≡ true → (f : Found) → f ≡ found_in b x → depth_as b f ≡ depth_result b x
+  pub depth_result_found : is_register_sound b ≡ true → (f : Found) → f ≡ found_in b x → depth_as b f ≡ depth_result b x
   unfolding depth_result
-  depth_found e f g = rw (e, g) refl
+  depth_result_found e f g = rw (e, g) refl
+
+  pub depth_found : is_register_sound b ≡ true → (f : Found) → f ≡ found_in b x → signed_as pos (depth_as b f) ≡ depth_answer b x
+  depth_found e f g = ap (signed_as pos) (depth_result_found e f g)
 
   pub distance_unsound : (y : ℕ) → is_register_sound b ≡ false → Err Register ≡ distance_result b x y
   unfolding distance_result
   distance_unsound y e = rw e refl
 
-  pub distance_found : (y : ℕ) → is_register_sound b ≡ true → (f g : Found) → f ≡ found_in b x → g ≡ found_in b y
+  pub distance_result_found : (y : ℕ) → is_register_sound b ≡ true → (f g : Found) → f ≡ found_in b x → g ≡ found_in b y
       → distance_as f g ≡ distance_result b x y
   unfolding distance_result
-  distance_found y e f g p q = rw (e, p, q) refl
+  distance_result_found y e f g p q = rw (e, p, q) refl
+
+  pub distance_found : (y : ℕ) → is_register_sound b ≡ true → (f g : Found) → f ≡ found_in b x → g ≡ found_in b y
+      → signed_as (λ z. z) (distance_as f g) ≡ distance_answer b x y
+  distance_found y e f g p q = ap (signed_as (λ z. z)) (distance_result_found y e f g p q)
 
   pub distance_none : (y : ℕ) → is_register_sound b ≡ true → Nothing ≡ found_in b x → Err Target ≡ distance_result b x y
   unfolding distance_result

@@ -4,7 +4,7 @@ use Rattle.std.specs.Option.{option_eq}
 use mathlib.Core.Path.{◌≡◌, refl, sym, ap, ◌∙◌, subst}
 use mathlib.Core.Bool.{Bool, true, false, ◌&&◌}
 use mathlib.Core.List.{List, []}
-use Prim.Native.Nat.{ℕ, ◌+◌, ◌<◌}
+use Prim.Native.Nat.{ℕ, ◌<◌}
 use native.Mathlib.Omega.{arith}
 use Rattle.digits.specs.Order.{is_below}
 use Rattle.codes.specs.Reading.{read, is_empty_held, is_same}

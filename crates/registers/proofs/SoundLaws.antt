@@ -4,7 +4,6 @@ use mathlib.Core.Logic.{◌⊎◌, inl, inr}
 use mathlib.Core.Bool.{Bool, true, false, ◌&&◌, and-eq-true_iff}
 use mathlib.Core.List.{List, [], ◌∷◌}
 use Prim.Native.Nat.{ℕ, zero, suc, ◌+◌, ◌-◌, ◌≤◌, ◌<◌, compare, Ordering}
-use native.Mathlib.Numerals.{add-one}
 use native.Mathlib.Omega.{arith}
 use lib.ListN.{length, take, drop}
 use lib.Seq.{take-take, drop-drop}
@@ -99,15 +98,8 @@ pub below_at : (b : List ℕ) (t : Bool) (x y x₁ y₁ : ℕ) → t ≡ is_belo
     → t ≡ is_below (code_at b x₁) (code_at b y₁)
 below_at b t x y x₁ y₁ e f g = rw (← f, ← g) e
 
--- three tests in a row
-pub all_three : (a b c r : Bool) → a ≡ true → b ≡ true → r ≡ c → r ≡ (a && (b && c))
-all_three a b c r d e f = rw (d, e) f
-
 pub both_are : (a b r : Bool) → a ≡ true → r ≡ b → r ≡ (a && b)
 both_are a b r d e = rw d e
-
-pub second_fails : (a b c : Bool) → a ≡ true → b ≡ false → false ≡ (a && (b && c))
-second_fails a b c d e = rw (d, e) refl
 
 pub first_fails : (a b : Bool) → a ≡ false → false ≡ (a && b)
 first_fails a b d = rw d refl
@@ -131,16 +123,6 @@ label_sound b (suc n) i e h =
 pub labels_all : (b : List ℕ) (n : ℕ) → ((i : ℕ) → i < n → is_sound_label b i ≡ true) → is_sound_labels b n ≡ true
 labels_all b zero h = refl
 labels_all b (suc n) h = rw (labels_all b n (λ i k. h i (omega arith)), h n (omega arith)) refl
-
-pub labels_next : (b : List ℕ) (n : ℕ) → is_sound_labels b n ≡ true → is_sound_label b n ≡ true → is_sound_labels b (n + 1) ≡ true
-labels_next b n e f = rw (add-one n, e, f) refl
-
-pub labels_fail : (b : List ℕ) (n i : ℕ) → i < n → is_sound_label b i ≡ false → false ≡ is_sound_labels b n
-labels_fail b n i h e = go (is_sound_labels b n) refl
-  where
-    go : (t : Bool) → is_sound_labels b n ≡ t → false ≡ t
-    go true f = sym e ∙ label_sound b n i f h
-    go false f = refl
 
 pub label_codes : (b : List ℕ) (n i : ℕ) → HasLabels b n → i < n → SoundAt b i
 label_codes b n i h k = sound_at b i (has_place b n i h.0 k) (label_sound b n i h.1 k)

@@ -1,21 +1,15 @@
 //! A register: its layout, its soundness, the questions on it, and an entry's parts written in their places.
 #![tactic(auto)]
 
-ghost use Rattle.std.specs.Prelude.{◌≡◌, true, cond, ◌++◌, [], ◌+◌, ◌≤◌, ◌<◌, length};
+ghost use Rattle.std.specs.Prelude.{◌≡◌, ◌++◌, [], ◌+◌, ◌≤◌, ◌<◌, length};
 ghost use Rattle.numbers.specs.Bytes.{put, le4};
 ghost use Rattle.codes.specs.Code.{IsCode};
 ghost use Rattle.codes.specs.Field.{field_of};
 ghost use Rattle.codes.specs.Spread.{digits_of};
-ghost use Rattle.labels.specs.Label.{field_at};
-ghost use Rattle.identities.specs.Rows.{is_all_new};
+ghost use Rattle.labels.specs.Label.{field_at, label_size};
 ghost use Rattle.registers.specs.Entries.{entry_bytes};
-ghost use Rattle.registers.specs.Holds.{identities};
-ghost use Rattle.registers.specs.Sound.{line_at, CodeAt};
-ghost use Rattle.digits.specs.Order.{is_below};
-ghost use Rattle.codes.specs.Spread.{Held, Short};
-ghost use Rattle.registers.specs.Entries.{code_at};
-ghost use Rattle.registers.specs.Questions.{count_of, lines_of, is_sized, is_register_sound, found_in, depth_in, place_answer, depth_result, distance_result};
-ghost use Rattle.registers.specs.Layout.{most_entries, count_at, header_size, entry_place, start_place, end_place, parent_place, HasPlace};
+ghost use Rattle.registers.specs.Questions.{count_of, is_register_sound, place_answer, depth_result, distance_result};
+ghost use Rattle.registers.specs.Layout.{most_entries, count_at, header_size, label_at, entry_place, start_place, end_place, parent_place, HasPlace};
 
 mod entry;
 mod reading;
@@ -23,32 +17,39 @@ mod walk;
 
 use answers::Refusal;
 use codes::Code;
-use labels::{END, LABEL, PARENT, START};
 pub use entry::{Entry, Name};
+use labels::{END, LABEL, PARENT, START};
 pub use reading::{Reading, Sound};
 
-/// The largest number of entries and the largest depth.
+/// The largest number of entries.
 pub const MOST: usize = 4096;
 
+/// The largest depth.
 pub const DEEPEST: u32 = 63;
 
-/// Where count, zero and the entries begin.
+/// Where the count stands.
 pub const COUNT: usize = 0;
 
+/// Where the zero stands behind it.
 pub const ZERO: usize = COUNT + 4;
 
+/// Where the entries begin.
 pub const HEADER: usize = ZERO + 4;
 
-/// Where an entry's parts begin, and how many bytes it has.
+/// Where an identity stands in its entry.
 pub const IDENTITY: usize = 0;
 
+/// Where a tag stands in its entry.
 pub const TAG: usize = IDENTITY + 4;
 
+/// Where a label stands in its entry.
 pub const ENTRY_LABEL: usize = TAG + 4;
 
+/// How many bytes an entry has.
 pub const ENTRY: usize = ENTRY_LABEL + LABEL;
 
 /// Where an identity stands, from 0, or that it does not.
+// An enum of its own, taken apart by `let else`: a rule of the project on this lookup keeps it.
 #[derive(Clone, Copy)]
 pub enum Found {
     At(usize),
@@ -60,7 +61,6 @@ pub fn place(register: &[u8], identity: u32) -> Result<usize, Refusal>
     ensures answer { result ≡ place_answer register.now identity }
 {
     let register = Sound::check(register)?;
-    // Found and `let else` stay: the lookup's own enum is kept by a rule of the project.
     let Found::At(place) = register.reading.find(identity) else {
         return Err(Refusal::Target);
     };
@@ -108,50 +108,6 @@ pub fn count(register: &[u8]) -> usize
     numbers::read_u32(register, COUNT) as usize
 }
 
-// Kept until `edits` asks a `Reading` and a `Sound` itself.
-pub fn find(register: &[u8], x: u32) -> Found
-    requires sized { is_sized register.now ≡ true }
-    ensures found { result ≡ found_in register.now x }
-{
-    let reading = Reading {
-        bytes: register,
-        count: count(register),
-    };
-    reading.find(x)
-}
-
-// Kept until `edits` asks a `Reading` and a `Sound` itself.
-pub fn depth_at(register: &[u8], place: usize) -> usize
-    requires sound { is_register_sound register.now ≡ true }
-    requires place { place < count_of register.now }
-    ensures depth { result ≡ depth_in (line_at register.now place) (lines_of register.now) }
-{
-    let reading = Reading {
-        bytes: register,
-        count: count(register),
-    };
-    let sound = Sound { reading };
-    sound.depth_at(place)
-}
-
-// Kept until `edits` asks a `Reading` and a `Sound` itself.
-pub fn code_at(register: &[u8], at: usize) -> Code
-    requires code { CodeAt register.now at }
-    ensures held { Held result (code_at register.now at) }
-    ensures short { Short result }
-{
-    codes::code_of(labels::field(register, at))
-}
-
-// Kept until `edits` asks a `Reading` and a `Sound` itself.
-#[tactic(auto, using(crate::proofs::SoundLaws::codes_below))]
-pub fn fields_below(register: &[u8], x: usize, y: usize) -> bool
-    requires codes { CodeAt register.now x × CodeAt register.now y }
-    ensures below { result ≡ is_below (code_at register.now x) (code_at register.now y) }
-{
-    codes::below(labels::field(register, x), labels::field(register, y))
-}
-
 /// Where entry i begins.
 #[inline(always)]
 pub fn entry_place(i: usize) -> usize
@@ -167,7 +123,7 @@ pub fn start_place(i: usize) -> usize
     requires most { i ≤ most_entries }
     ensures place { result ≡ start_place i }
 {
-    entry_place(i) + ENTRY_LABEL + START
+    field_place(i, START)
 }
 
 /// Where the end of entry i stands.
@@ -176,7 +132,7 @@ pub fn end_place(i: usize) -> usize
     requires most { i ≤ most_entries }
     ensures place { result ≡ end_place i }
 {
-    entry_place(i) + ENTRY_LABEL + END
+    field_place(i, END)
 }
 
 /// Where the parent start of entry i stands.
@@ -185,7 +141,17 @@ pub fn parent_place(i: usize) -> usize
     requires most { i ≤ most_entries }
     ensures place { result ≡ parent_place i }
 {
-    entry_place(i) + ENTRY_LABEL + PARENT
+    field_place(i, PARENT)
+}
+
+/// Where a field of the label of entry i stands, by its place in the label.
+#[inline(always)]
+fn field_place(i: usize, at: usize) -> usize
+    requires most { i ≤ most_entries }
+    requires label { at ≤ label_size }
+    ensures place { result ≡ entry_place i + label_at + at }
+{
+    entry_place(i) + ENTRY_LABEL + at
 }
 
 /// Leaves the count of entries and the zero behind it.

@@ -3,7 +3,7 @@ use mathlib.Core.Path.{sym, ap, ◌∙◌}
 use Rattle.std.specs.Prelude.{Ok, Err}
 use Rattle.std.proofs.lemmas.Result.{err_from_is_err_and}
 use Rattle.registers.specs.Questions.{depth_as, depth_result}
-use Rattle.registers.proofs.QuestionLaws.{found_inside, depth_unsound, depth_found}
+use Rattle.registers.proofs.QuestionLaws.{found_inside, depth_unsound, depth_result_found}
 use Rattle.registers.proofs.depth.Goals as goal
 
 pub returns-in_err-register : goal.returns-in_err-register
@@ -17,7 +17,7 @@ returns-in_default c =
     let s = c.in_ok-register.register in
     let b = s.reading.bytes.now in
     record {
-      answer = ap (depth_as b) (sym c.in_default.is) ∙ depth_found b c.args.identity s.sound _ c.find.ensures.found
+      answer = ap (depth_as b) (sym c.in_default.is) ∙ depth_result_found b c.args.identity s.sound _ c.find.ensures.found
           ∙ ap (λ b. depth_result b c.args.identity) c.in_ok-register.ensures.sound;
     }
 
@@ -32,6 +32,6 @@ returns c =
     let b = s.reading.bytes.now in
     record {
       answer = ap Ok c.depth_at.ensures.depth ∙ ap (depth_as b) (sym c.in-At.is)
-          ∙ depth_found b c.args.identity s.sound _ c.find.ensures.found
+          ∙ depth_result_found b c.args.identity s.sound _ c.find.ensures.found
           ∙ ap (λ b. depth_result b c.args.identity) c.in_ok-register.ensures.sound;
     }

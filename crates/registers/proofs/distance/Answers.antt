@@ -6,7 +6,7 @@ use Rattle.std.specs.Prelude.{Ok, Err}
 use Rattle.std.proofs.lemmas.Result.{err_from_is_err_and}
 use Rattle.registers.specs.declared.Found.TheVariants.{At}
 use Rattle.registers.specs.Questions.{distance_as, distance_result}
-use Rattle.registers.proofs.QuestionLaws.{found_inside, difference_fits, difference_is, distance_unsound, distance_found, distance_none, sized_of}
+use Rattle.registers.proofs.QuestionLaws.{found_inside, difference_fits, difference_is, distance_unsound, distance_result_found, distance_none, sized_of}
 use Rattle.registers.proofs.distance.Goals as goal
 use Rattle.registers.proofs.distance.Goals.{In-At-find}
 
@@ -39,7 +39,7 @@ returns-in_default-find c =
     let s = c.in_ok-register.register in
     record {
       answer = ap (distance_as (At c.in-At.from)) (sym c.in_default-find.is) ∙ ap (λ f. distance_as f c.find-2.result) (sym c.in-At.is)
-          ∙ distance_found s.reading.bytes.now c.args.x c.args.y s.sound _ _ c.find.ensures.found c.find-2.ensures.found
+          ∙ distance_result_found s.reading.bytes.now c.args.x c.args.y s.sound _ _ c.find.ensures.found c.find-2.ensures.found
           ∙ ap (λ b. distance_result b c.args.x c.args.y) c.in_ok-register.ensures.sound;
     }
 
@@ -62,6 +62,6 @@ returns c =
     record {
       answer = ap Ok (difference_is _ _ k.0 k.1) ∙ ap (distance_as (At c.in-At.from)) (sym c.in-At-find.is)
           ∙ ap (λ f. distance_as f c.find-2.result) (sym c.in-At.is)
-          ∙ distance_found s.reading.bytes.now c.args.x c.args.y s.sound _ _ c.find.ensures.found c.find-2.ensures.found
+          ∙ distance_result_found s.reading.bytes.now c.args.x c.args.y s.sound _ _ c.find.ensures.found c.find-2.ensures.found
           ∙ ap (λ b. distance_result b c.args.x c.args.y) c.in_ok-register.ensures.sound;
     }

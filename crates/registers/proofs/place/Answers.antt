@@ -2,7 +2,7 @@
 use mathlib.Core.Path.{sym, ap, ◌∙◌}
 use Rattle.std.specs.Prelude.{Err}
 use Rattle.std.proofs.lemmas.Result.{err_from_is_err_and}
-use Rattle.registers.specs.Questions.{place_as, place_answer, is_register_sound}
+use Rattle.registers.specs.Questions.{place_as, place_answer}
 use Rattle.registers.proofs.QuestionLaws.{place_unsound, place_found}
 use Rattle.registers.proofs.place.Goals as goal
 

@@ -1,10 +1,10 @@
 -- An entry: its own tests, then its row. A row: each child's entry, or the end of the row.
-use mathlib.Core.Path.{◌≡◌, sym, ap, ◌∙◌, subst}
+use mathlib.Core.Path.{◌≡◌, sym, ap, ◌∙◌}
 use Prim.Native.Nat.{ℕ}
 use native.Mathlib.Omega.{arith}
-use Rattle.std.specs.Prelude.{Some, None}
+use Rattle.std.specs.Prelude.{Some}
 use Rattle.registers.specs.Entries.{code_at}
-use Rattle.registers.specs.Sound.{children_from, CodeAt}
+use Rattle.registers.specs.Sound.{children_from}
 use Rattle.registers.proofs.SoundLaws.{below_at}
 use Rattle.registers.proofs.ReadingLaws.{start_held, end_held}
 use Rattle.registers.proofs.RowLaws.{entry_on, entry_no, entry_deep, row_past, row_ends, row_to, row_un}
