@@ -78,7 +78,8 @@ fn closer<D: Direction>(register: &Sound, from: usize, best: usize, at: usize) -
     requires at { CodeAt (bytes_of register.now) at }
     ensures code { CodeAt (bytes_of register.now) result }
     ensures closer { code_at (bytes_of register.now) result
-        ≡ closer_of D.up (code_at (bytes_of register.now) from) (code_at (bytes_of register.now) best) (code_at (bytes_of register.now) at) }
+        ≡ closer_of D.up (code_at (bytes_of register.now) from) (code_at (bytes_of register.now) best)
+        (code_at (bytes_of register.now) at) }
 {
     if D::toward(register, from, at) && D::toward(register, at, best) {
         at
