@@ -174,7 +174,8 @@ module _ (b : List ℕ) (h : Holds b (tree_in b)) where
             (subst (λ us. is_fresh m.identity (identities us) ≡ true) (lines_held b g h) c.new) c.level c.room s e);
       }
 
-  cut_held : (t n i : ℕ) → found_in b t ≡ At i → 0 < i → is_leaf i g ≡ true → ◌≡◌ {A = Result ℕ Refusal} (Ok i) (Ok n) → Deleted b t g n (deleted_bytes b i)
+  cut_held : (t n i : ℕ) → found_in b t ≡ At i → 0 < i → is_leaf i g ≡ true → ◌≡◌ {A = Result ℕ Refusal} (Ok i) (Ok n)
+      → Deleted b t g n (deleted_bytes b i)
   cut_held t n i k p l a =
       let w = taken g i (inside_tree t i k) l in
       let r : Deleted b t g i (deleted_bytes b i) =

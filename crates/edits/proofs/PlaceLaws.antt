@@ -209,8 +209,4 @@ pub bool_byte_most : (t : Bool) → bool_byte t ≤ 1
 bool_byte_most true = omega arith
 bool_byte_most false = omega arith
 
--- a place of an entry is one that a register may have
-pub place_fits : (b : List ℕ) (i : ℕ) → is_register_sound b ≡ true → i < count_of b → i ≤ most_entries
-place_fits b i e h = omega (arith, h, (sized_of b e).most)
-
-pub ruleset sides = (place_fits, own_found, own_left, own_right, other_right, other_left)
+pub ruleset sides = (own_found, own_left, own_right, other_right, other_left)

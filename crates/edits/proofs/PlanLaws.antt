@@ -60,7 +60,8 @@ module _ (b : List ℕ) (e : is_register_sound b ≡ true) (w : Where) (i : ℕ)
         ≡ accepted n (inserted_bytes b n (record { name = m; start = digits_of s; end = digits_of t; parent = digits_of u }))
     planned m n o =
         let a = o ∙ found_place b e w i h p in
+        let x : Entry Name = record { name = m; start = digits_of s; end = digits_of t; parent = digits_of u } in
         put_done b m f q (omega (arith, started.count, short)) (omega (arith, ended.count, short_end))
         ∙ sym
-        (ap (λ (j : ℕ). accepted j (inserted_bytes b n (record { name = m; start = digits_of s; end = digits_of t; parent = digits_of u }))) a
+        (ap (λ (j : ℕ). accepted j (inserted_bytes b n x)) a
         ∙ ap (accepted _) (same_inserted b n _ m _ _ _ _ _ _ a started.digits ended.digits (k ∙ (parent_found b e w i h p from g).2)))

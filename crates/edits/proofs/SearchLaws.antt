@@ -1,14 +1,14 @@
 -- Laws of the loops that look for a neighbour and count the starts below a code, and what they find in a sound register.
 -- Assumes nothing.
-use mathlib.Core.Path.{◌≡◌, refl, sym, ap, ◌∙◌}
+use mathlib.Core.Path.{◌≡◌, refl, sym, ap, ◌∙◌, subst}
 use mathlib.Core.Bool.{Bool, true, false, cond}
-use mathlib.Core.List.{List, []}
+use mathlib.Core.List.{List}
 use Prim.Native.Nat.{ℕ, suc, ◌+◌, ◌-◌, ◌<◌}
 use native.Mathlib.Numerals.{add-one}
 use native.Mathlib.Omega.{arith}
 use Rattle.digits.specs.Order.{Digits, is_below}
 use Rattle.trees.specs.Labelled.{Name, Entry}
-use Rattle.trees.specs.Search.{is_toward, closer, outermost, nearest, leading}
+use Rattle.trees.specs.Search.{closer, outermost, nearest, leading}
 use Rattle.registers.specs.Layout.{start_place, end_place}
 use Rattle.registers.specs.Entries.{code_at}
 use Rattle.registers.specs.Sound.{line_at, lines_from, CodeAt}
@@ -16,6 +16,14 @@ use Rattle.registers.specs.Questions.{count_of, lines_of, is_register_sound}
 use Rattle.edits.specs.Search.{outer_place}
 use Rattle.registers.proofs.RowLaws.{lines_next}
 use Rattle.registers.proofs.QuestionLaws.{sized_of, codes_at, start_of, end_of}
+
+-- the codes of entry i, over the place that the code has read
+module _ (b : List ℕ) (e : is_register_sound b ≡ true) (i : ℕ) (h : i < count_of b) (at : ℕ) where
+  pub start_read : at ≡ start_place i → CodeAt b at
+  start_read k = subst (CodeAt b) (sym k) (codes_at b e i h).start_at_lem
+
+  pub end_read : at ≡ end_place i → CodeAt b at
+  end_read k = subst (CodeAt b) (sym k) (codes_at b e i h).end_at_lem
 
 -- where the search begins
 module _ (b : List ℕ) (e : is_register_sound b ≡ true) where
@@ -30,24 +38,6 @@ module _ (b : List ℕ) (e : is_register_sound b ≡ true) where
   outer_is true = end_of b e 0 some
   outer_is false = start_of b e 0 some
 
--- one step, by its tests
-module _ (up : Bool) (x y : Digits) where
-  pub toward_up : (r : Bool) → up ≡ true → r ≡ is_below x y → r ≡ is_toward up x y
-  toward_up r e h = rw e h
-
-  pub toward_down : (r : Bool) → up ≡ false → r ≡ is_below y x → r ≡ is_toward up x y
-  toward_down r e h = rw e h
-
-module _ (up : Bool) (x best y : Digits) where
-  pub closer_here : is_toward up x y ≡ true → is_toward up y best ≡ true → y ≡ closer up x best y
-  closer_here e f = rw (e, f) refl
-
-  pub closer_beyond : is_toward up x y ≡ true → is_toward up y best ≡ false → best ≡ closer up x best y
-  closer_beyond e f = rw (e, f) refl
-
-  pub closer_behind : is_toward up x y ≡ false → best ≡ closer up x best y
-  closer_behind e = rw e refl
-
 -- the search from line i on
 abbrev pub nearest_from : List ℕ → Bool → Digits → Digits → ℕ → Digits
 nearest_from b up x best i = nearest up x best (lines_from b i (count_of b - i))
@@ -55,15 +45,9 @@ nearest_from b up x best i = nearest up x best (lines_from b i (count_of b - i))
 all_lines : (b : List ℕ) → lines_from b 0 (count_of b - 0) ≡ lines_of b
 all_lines b = let z : count_of b - 0 ≡ count_of b = omega arith in rw z refl
 
-no_lines : (b : List ℕ) (i : ℕ) → i ≡ count_of b → lines_from b i (count_of b - i) ≡ []
-no_lines b i e = let z : count_of b - count_of b ≡ 0 = omega arith in rw (e, z) refl
-
 module _ (b : List ℕ) (up : Bool) (x : Digits) where
   pub nearest_all : (best : Digits) → nearest up x best (lines_of b) ≡ nearest_from b up x best 0
   nearest_all best = ap (nearest up x best) (sym (all_lines b))
-
-  pub nearest_none : (best : Digits) (i : ℕ) → i ≡ count_of b → nearest_from b up x best i ≡ best
-  nearest_none best i e = ap (nearest up x best) (no_lines b i e)
 
   pub nearest_next : is_register_sound b ≡ true → (i : ℕ) → i < count_of b → (best next last : Digits)
       → next ≡ closer up x best (code_at b (start_place i))
@@ -84,12 +68,6 @@ abbrev pub leading_from : List ℕ → Digits → ℕ → ℕ
 leading_from b r i = leading r (lines_from b i (count_of b - i))
 
 module _ (b : List ℕ) (r : Digits) where
-  pub leading_all : leading r (lines_of b) ≡ 0 + leading_from b r 0
-  leading_all = let e = ap (leading r) (all_lines b) in omega arith
-
-  pub leading_none : (i : ℕ) → i ≡ count_of b → leading_from b r i ≡ 0
-  leading_none i e = ap (leading r) (no_lines b i e)
-
   module _ (e : is_register_sound b ≡ true) (i : ℕ) (h : i < count_of b) where
     leading_step : leading_from b r i ≡ cond (is_below (code_at b (start_place i)) r) (suc (leading_from b r (suc i))) 0
     leading_step = ap (leading r) (lines_next b (count_of b) i h) ∙ rw (start_of b e i h) refl

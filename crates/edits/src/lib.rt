@@ -31,7 +31,7 @@ use registers::{
 use search::{Downward, Upward};
 
 /// Where an entry is put in, with the identity of its target.
-// It stays an enum of four cases that each hold the target: the case is the place, and `apply` promises by it.
+// Each case holds the target, and stays so: a rule of the project keeps a place together with its target.
 #[derive(Clone, Copy, Debug, PartialEq, Eq)]
 pub enum Place {
     FirstChildOf(u32),
@@ -53,14 +53,14 @@ pub enum Edit {
     },
 }
 
-// An insertion that is not refused: the place of the new entry, and the entry.
+/// An insertion that is not refused: the place of the new entry, and the entry.
 #[derive(Clone, Copy)]
 struct Planned {
     place: usize,
     entry: Entry,
 }
 
-// Where the codes on both sides of a place stand.
+/// Where the codes on both sides of a place stand.
 #[derive(Clone, Copy)]
 struct Gap {
     left: usize,
@@ -92,7 +92,7 @@ pub fn apply(register: &mut [u8], edit: Edit) -> Result<usize, Refusal>
     }
 }
 
-// An insertion as a place and an entry. Refuses 6, 7, 3, 10, 4, 8.
+/// An insertion as a place and an entry. Refuses 6, 7, 3, 10, 4, 8.
 #[tactic(auto, unfolding(crate::specs::Edits::insert_outcome))]
 fn plan_insertion(register: &Sound, place: Place, name: Name) -> Result<Planned, Refusal>
     ensures ok { IfOk result (λ p. insert_outcome (bytes_of register.now) (where_of place) (target_of place) (name_of name)
@@ -118,7 +118,7 @@ fn plan_insertion(register: &Sound, place: Place, name: Name) -> Result<Planned,
     plan_at(register, place, at, name)
 }
 
-// A deletion as the place of the entry. Refuses 6, 7, 9.
+/// A deletion as the place of the entry. Refuses 6, 7, 9.
 #[tactic(auto, unfolding(crate::specs::Edits::delete_outcome))]
 fn plan_deletion(register: &Sound, target: u32) -> Result<usize, Refusal>
     ensures ok { IfOk result (λ i. delete_outcome (bytes_of register.now) target ≡ accepted i (deleted_bytes (bytes_of register.now) i)) }
@@ -135,19 +135,19 @@ fn plan_deletion(register: &Sound, target: u32) -> Result<usize, Refusal>
     Ok(at)
 }
 
-// The place of an edit's target. Refuses 6.
+/// The place of an edit's target. Refuses 6.
 fn found(register: &Sound, target: u32) -> Result<usize, Refusal>
     ensures ok { IfOk result (λ i. (found_in (bytes_of register.now) target ≡ Found.At i) × (i < count_of (bytes_of register.now))) }
     ensures err { IfErr result (λ r. (r ≡ Refusal.Target) × (found_in (bytes_of register.now) target ≡ Found.Nothing)) }
 {
-    // `Found` stays an enum of its own, taken apart by `let else`: the place of an identity, or that it has none.
+    // `Found` and `let else` stay: the lookup's own enum is kept by a rule of the project.
     let Found::At(at) = register.reading.find(target) else {
         return Err(Refusal::Target);
     };
     Ok(at)
 }
 
-// The codes of a new entry between its neighbours, and its place. Refuses 8.
+/// The codes of a new entry between its neighbours, and its place. Refuses 8.
 fn plan_at(register: &Sound, place: Place, at: usize, name: Name) -> Result<Planned, Refusal>
     requires at { at < count_of (bytes_of register.now) }
     requires parented { is_parented (where_of place) at ≡ true }
@@ -175,7 +175,7 @@ fn plan_at(register: &Sound, place: Place, at: usize, name: Name) -> Result<Plan
     })
 }
 
-// A code that is no longer than codes may be. Refuses 8.
+/// A code that is no longer than codes may be. Refuses 8.
 fn fitting(code: Code) -> Result<Code, Refusal>
     ensures ok { IfOk result (λ fit. (fit ≡ code) × (code.count ≤ longest)) }
     ensures err { IfErr result (λ r. (r ≡ Refusal.CodeLength) × (longest < code.count)) }
@@ -186,7 +186,7 @@ fn fitting(code: Code) -> Result<Code, Refusal>
     Ok(code)
 }
 
-// The neighbours of a place: one is the target's own code, the other is found.
+/// The neighbours of a place: one is the target's own code, the other is found.
 #[tactic(auto, using(crate::proofs::PlaceLaws::sides))]
 fn neighbours(register: &Sound, place: Place, at: usize) -> Gap
     requires at { at < count_of (bytes_of register.now) }
@@ -211,7 +211,7 @@ fn neighbours(register: &Sound, place: Place, at: usize) -> Gap
     }
 }
 
-// Moves the entries from a place on up by one, and leaves the new entry there.
+/// Moves the entries from a place on up by one, and leaves the new entry there.
 fn put_in(register: &mut [u8], place: usize, entry: &Entry)
     requires sized { is_sized register.old ≡ true }
     requires room { has_room register.old ≡ true }
@@ -225,7 +225,7 @@ fn put_in(register: &mut [u8], place: usize, entry: &Entry)
     registers::write_header(register, n + 1);
 }
 
-// Moves the entries behind a place down by one, and clears what the last leaves.
+/// Moves the entries behind a place down by one, and clears what the last leaves.
 fn take_out(register: &mut [u8], place: usize)
     requires sized { is_sized register.old ≡ true }
     requires place { place < count_of register.old }
@@ -238,7 +238,7 @@ fn take_out(register: &mut [u8], place: usize)
     registers::write_header(register, n - 1);
 }
 
-// An identity that is not 0 and no entry's.
+/// An identity that is not 0 and no entry's.
 #[tactic(auto, using(crate::proofs::OutcomeLaws::freshness))]
 fn fresh(register: &Sound, identity: u32) -> bool
     ensures fresh { result ≡ is_fresh identity (identities (lines_of (bytes_of register.now))) }
@@ -246,7 +246,7 @@ fn fresh(register: &Sound, identity: u32) -> bool
     identity != 0 && matches!(register.reading.find(identity), Found::Nothing)
 }
 
-// Fewer than the most entries, and room for one more.
+/// Fewer than the most entries, and room for one more.
 fn has_room(register: &Sound) -> bool
     ensures room { result ≡ has_room (bytes_of register.now) }
 {
@@ -254,7 +254,7 @@ fn has_room(register: &Sound) -> bool
     n < MOST && entry_place(n + 1) <= register.reading.bytes.len()
 }
 
-// The depth of an entry at a place of entry `at`.
+/// The depth of an entry at a place of entry `at`.
 fn level(register: &Sound, place: Place, at: usize) -> usize
     requires at { at < count_of (bytes_of register.now) }
     ensures level { result ≡ level_at (tree_in (bytes_of register.now))
@@ -264,7 +264,7 @@ fn level(register: &Sound, place: Place, at: usize) -> usize
 }
 
 impl Place {
-    // The identity of the entry that it is named by.
+    /// The identity of the entry that it is named by.
     fn target(self) -> u32
         ensures target { result ≡ target_of self }
     {
@@ -276,7 +276,7 @@ impl Place {
         }
     }
 
-    // Among the children of its target.
+    /// Among the children of its target.
     fn is_inside(self) -> bool
         ensures inside { result ≡ is_inside (where_of self) }
     {
@@ -286,14 +286,14 @@ impl Place {
         }
     }
 
-    // Only before and after the root, entry 0, an entry would have no parent.
+    /// Only before and after the root, entry 0, an entry would have no parent.
     fn is_parented(self, at: usize) -> bool
         ensures parented { result ≡ is_parented (where_of self) at }
     {
         self.is_inside() || 0 < at
     }
 
-    // The target's own code is the left neighbour, and the other lies upward.
+    /// The target's own code is the left neighbour, and the other lies upward.
     fn is_upward(self) -> bool
         ensures upward { result ≡ is_upward (where_of self) }
     {
@@ -303,7 +303,7 @@ impl Place {
         }
     }
 
-    // Where the target's own code stands that is next to the place.
+    /// Where the target's own code stands that is next to the place.
     fn own_place(self, at: usize) -> usize
         requires most { at ≤ most_entries }
         ensures place { result ≡ own_place (where_of self) at }
@@ -314,7 +314,7 @@ impl Place {
         }
     }
 
-    // Where the parent start of an entry at the place is found.
+    /// Where the parent start of an entry at the place is found.
     fn parent_from(self, at: usize) -> usize
         requires most { at ≤ most_entries }
         ensures place { result ≡ parent_from (where_of self) at }

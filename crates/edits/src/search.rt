@@ -10,24 +10,24 @@ ghost use Rattle.registers.specs.Questions.{count_of, lines_of, tree_in};
 
 use registers::{Sound, end_place, start_place};
 
-// Which way a search for a neighbour goes along the tour. It is a type, so that no step of the search asks for it.
+/// Which way a search for a neighbour goes along the tour. It is a type, so that no step of the search asks for it.
 pub(crate) trait Direction {
     ghost up: { Bool };
 
-    // Where the search begins: at the first entry's end, or its start.
+    /// Where the search begins: at the first entry's end, or its start.
     fn outer_place() -> usize
         ensures place { result ≡ outer_place up };
 
-    // The code at x comes before the one at y.
+    /// The code at x comes before the one at y.
     fn toward(register: &Sound, x: usize, y: usize) -> bool
         requires codes { CodeAt (bytes_of register.now) x × CodeAt (bytes_of register.now) y }
         ensures toward { result ≡ is_toward up (code_at (bytes_of register.now) x) (code_at (bytes_of register.now) y) };
 }
 
-// From a left neighbour to the right one.
+/// From a left neighbour to the right one.
 pub(crate) enum Upward {}
 
-// From a right neighbour to the left one.
+/// From a right neighbour to the left one.
 pub(crate) enum Downward {}
 
 impl Direction for Upward {
@@ -54,7 +54,7 @@ impl Direction for Downward {
     }
 }
 
-// Where the code of all entries stands that is nearest to the one at `from`, in a direction.
+/// Where the code of all entries stands that is nearest to the one at `from`, in a direction.
 pub(crate) fn nearest<D: Direction>(register: &Sound, from: usize) -> usize
     requires from { CodeAt (bytes_of register.now) from }
     ensures code { CodeAt (bytes_of register.now) result }
@@ -71,14 +71,15 @@ pub(crate) fn nearest<D: Direction>(register: &Sound, from: usize) -> usize
     best
 }
 
-// The code at `at` where it lies between the one at `from` and the best so far, else the best.
+/// The code at `at` where it lies between the one at `from` and the best so far, else the best.
 fn closer<D: Direction>(register: &Sound, from: usize, best: usize, at: usize) -> usize
     requires from { CodeAt (bytes_of register.now) from }
     requires best { CodeAt (bytes_of register.now) best }
     requires at { CodeAt (bytes_of register.now) at }
     ensures code { CodeAt (bytes_of register.now) result }
     ensures closer { code_at (bytes_of register.now) result
-        ≡ closer_of D.up (code_at (bytes_of register.now) from) (code_at (bytes_of register.now) best) (code_at (bytes_of register.now) at) }
+        ≡ closer_of D.up (code_at (bytes_of register.now) from) (code_at (bytes_of register.now) best)
+        (code_at (bytes_of register.now) at) }
 {
     if D::toward(register, from, at) && D::toward(register, at, best) {
         at
@@ -87,7 +88,7 @@ fn closer<D: Direction>(register: &Sound, from: usize, best: usize, at: usize) -
     }
 }
 
-// How many entries start below the code at a place.
+/// How many entries start below the code at a place.
 pub(crate) fn starts_below(register: &Sound, at: usize) -> usize
     requires code { CodeAt (bytes_of register.now) at }
     ensures starts { result ≡ leading (code_at (bytes_of register.now) at) (lines_of (bytes_of register.now)) }
@@ -102,7 +103,7 @@ pub(crate) fn starts_below(register: &Sound, at: usize) -> usize
     n
 }
 
-// An entry without children is the last to start below its end.
+/// An entry without children is the last to start below its end.
 pub(crate) fn leaf(register: &Sound, i: usize) -> bool
     requires place { i < count_of (bytes_of register.now) }
     ensures leaf { result ≡ is_leaf i (tree_in (bytes_of register.now)) }

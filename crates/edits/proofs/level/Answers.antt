@@ -6,7 +6,8 @@ use Rattle.edits.proofs.level.Goals as goal
 
 pub overflow_add-result : goal.overflow_add-result
 overflow_add-result c =
-    omega (arith, depth_most _ c.args.at _ c.args.register.now.sound c.depth_at.ensures.depth, c.from.ensures, bool_byte_most c.is_inside.result)
+    let most = depth_most _ c.args.at _ c.args.register.now.sound c.depth_at.ensures.depth in
+    omega (arith, most, c.from.ensures, bool_byte_most c.is_inside.result)
 
 pub returns : goal.returns
 returns c = record {

@@ -1,10 +1,7 @@
 -- `neighbours` meets its contract. Assumes nothing.
 use Rattle.edits.specs.Edits.{where_of}
-use Rattle.edits.proofs.PlaceLaws.{place_fits, own_found}
+use Rattle.edits.proofs.PlaceLaws.{own_found}
 use Rattle.edits.proofs.neighbours.Goals as goal
-
-pub own_place-own-requires : goal.own_place-own-requires
-own_place-own-requires c = record { most = place_fits _ _ c.args.register.now.sound c.requires.at }
 
 pub nearest-requires : goal.nearest-requires
 nearest-requires c = record {

@@ -1,22 +1,16 @@
 -- `leaf` meets its contract. Assumes nothing.
-use mathlib.Core.Path.{sym, ap, ◌∙◌, subst}
+use mathlib.Core.Path.{ap, ◌∙◌}
 use Prim.Native.Nat.{ℕ}
 use Rattle.trees.specs.Search.{leading}
 use Rattle.registers.specs.Entries.{code_at}
-use Rattle.registers.specs.Sound.{CodeAt}
 use Rattle.registers.specs.Questions.{lines_of}
-use Rattle.registers.proofs.QuestionLaws.{codes_at}
-use Rattle.edits.proofs.PlaceLaws.{place_fits, leaf_is}
+use Rattle.edits.proofs.SearchLaws.{end_read}
+use Rattle.edits.proofs.PlaceLaws.{leaf_is}
 use Rattle.edits.proofs.search.leaf.Goals as goal
-
-pub end_place-requires : goal.end_place-requires
-end_place-requires c = record { most = place_fits _ _ c.args.register.now.sound c.requires.place }
 
 pub starts_below-requires : goal.starts_below-requires
 starts_below-requires c = record {
-  code =
-      subst (CodeAt c.args.register.now.reading.bytes.now) (sym c.end_place.ensures.place)
-      (codes_at _ c.args.register.now.sound _ c.requires.place).end_at_lem;
+  code = end_read _ c.args.register.now.sound c.args.i c.requires.place _ c.end_place.ensures.place;
 }
 
 pub returns : goal.returns

@@ -7,37 +7,29 @@ use Rattle.trees.specs.Search.{closer, nearest}
 use Rattle.registers.specs.Entries.{code_at}
 use Rattle.registers.specs.Sound.{CodeAt}
 use Rattle.registers.specs.Questions.{lines_of}
-use Rattle.registers.proofs.QuestionLaws.{sized_of, codes_at}
-use Rattle.edits.proofs.SearchLaws.{outer_code, outer_is, nearest_all, nearest_next}
+use Rattle.edits.proofs.SearchLaws.{start_read, end_read, outer_code, outer_is, nearest_all, nearest_next}
 use Rattle.edits.proofs.search.nearest.Goals as goal
 
 pub loop-i-init : goal.loop-i-init
 loop-i-init g c = let b = c.args.register.now.reading.bytes.now in
+    let s = c.args.register.now.sound in
     let up = g.D.Direction.up in
     let o = c.outer_place-best.ensures.place in
     let x = code_at b c.args.from in record {
       counted = c.count-n.ensures.count;
-      best = subst (CodeAt b) (sym o) (outer_code b c.args.register.now.sound up);
+      best = subst (CodeAt b) (sym o) (outer_code b s up);
       left =
-          ap (λ (z : Digits). nearest up x z (lines_of b)) (outer_is b c.args.register.now.sound up ∙ ap (code_at b) (sym o))
+          ap (λ (z : Digits). nearest up x z (lines_of b)) (outer_is b s up ∙ ap (code_at b) (sym o))
           ∙ nearest_all b up x _;
     }
 
-pub start_place-requires : goal.start_place-requires
-start_place-requires g c = record { most = omega (arith, (sized_of _ c.args.register.now.sound).most, c.loop-i.invariant.counted) }
-
 pub closer-best-requires-clause-at : goal.closer-best-requires-clause-at
-closer-best-requires-clause-at g c = let b = c.args.register.now.reading.bytes.now in
-    subst (CodeAt b) (sym c.start_place.ensures.place)
-    (codes_at b c.args.register.now.sound c.loop-i.i (omega (arith, c.loop-i.invariant.counted))).start_at_lem
-
-pub end_place-requires : goal.end_place-requires
-end_place-requires g c = record { most = omega (arith, (sized_of _ c.args.register.now.sound).most, c.loop-i.invariant.counted) }
+closer-best-requires-clause-at g c =
+    start_read _ c.args.register.now.sound c.loop-i.i (omega (arith, c.loop-i.invariant.counted)) _ c.start_place.ensures.place
 
 pub closer-best-requires-in-loop-i-clause-at : goal.closer-best-requires-in-loop-i-clause-at
-closer-best-requires-in-loop-i-clause-at g c = let b = c.args.register.now.reading.bytes.now in
-    subst (CodeAt b) (sym c.end_place.ensures.place)
-    (codes_at b c.args.register.now.sound c.loop-i.i (omega (arith, c.loop-i.invariant.counted))).end_at_lem
+closer-best-requires-in-loop-i-clause-at g c =
+    end_read _ c.args.register.now.sound c.loop-i.i (omega (arith, c.loop-i.invariant.counted)) _ c.end_place.ensures.place
 
 pub loop-i-preserved : goal.loop-i-preserved
 loop-i-preserved g c = let b = c.args.register.now.reading.bytes.now in

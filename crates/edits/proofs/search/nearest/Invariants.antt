@@ -8,9 +8,12 @@ use Rattle.edits.proofs.SearchLaws.{nearest_from}
 use Rattle.edits.proofs.search.nearest.Given as goal
 
 abbrev pub invariant-loop-i : goal.invariant-loop-i
-invariant-loop-i g l = record {
-  counted : l.n ≡ count_of l.register.reading.bytes.now;
-  best : CodeAt l.register.reading.bytes.now l.best;
-  left : nearest g.D.Direction.up (code_at l.register.reading.bytes.now l.from) (outermost g.D.Direction.up (line_at l.register.reading.bytes.now 0)) (lines_of l.register.reading.bytes.now)
-      ≡ nearest_from l.register.reading.bytes.now g.D.Direction.up (code_at l.register.reading.bytes.now l.from) (code_at l.register.reading.bytes.now l.best) l.i;
-}
+invariant-loop-i g l =
+    let b = l.register.reading.bytes.now in
+    let up = g.D.Direction.up in
+    record {
+      counted : l.n ≡ count_of b;
+      best : CodeAt b l.best;
+      left : nearest up (code_at b l.from) (outermost up (line_at b 0)) (lines_of b)
+          ≡ nearest_from b up (code_at b l.from) (code_at b l.best) l.i;
+    }

@@ -1,21 +1,15 @@
 -- `starts_below` meets its contract: all lines before line i start below the code. Assumes nothing.
-use mathlib.Core.Path.{sym, ap, ◌∙◌, subst}
+use mathlib.Core.Path.{sym, ap, ◌∙◌}
 use native.Mathlib.Omega.{arith}
 use Rattle.digits.specs.Order.{is_below}
 use Rattle.registers.specs.Entries.{code_at}
-use Rattle.registers.specs.Sound.{CodeAt}
-use Rattle.registers.proofs.QuestionLaws.{sized_of, codes_at}
-use Rattle.edits.proofs.SearchLaws.{leading_next, leading_stop}
+use Rattle.edits.proofs.SearchLaws.{start_read, leading_next, leading_stop}
 use Rattle.edits.proofs.search.starts_below.Goals as goal
-
-pub start_place-requires : goal.start_place-requires
-start_place-requires c = record { most = omega (arith, (sized_of _ c.args.register.now.sound).most, c.loop-i.invariant.counted) }
 
 pub fields_below-requires : goal.fields_below-requires
 fields_below-requires c = record {
-  codes = let b = c.args.register.now.reading.bytes.now in (
-    subst (CodeAt b) (sym c.start_place.ensures.place)
-        (codes_at b c.args.register.now.sound c.loop-i.i (omega (arith, c.loop-i.invariant.counted))).start_at_lem,
+  codes = (
+    start_read _ c.args.register.now.sound c.loop-i.i (omega (arith, c.loop-i.invariant.counted)) _ c.start_place.ensures.place,
     c.requires.code,
   );
 }

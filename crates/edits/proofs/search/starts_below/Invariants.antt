@@ -8,7 +8,9 @@ use Rattle.edits.proofs.SearchLaws.{leading_from}
 use Rattle.edits.proofs.search.starts_below.Given as goal
 
 abbrev pub invariant-loop-i : goal.invariant-loop-i
-invariant-loop-i l = record {
-  counted : l.n ≡ count_of l.register.reading.bytes.now;
-  left : leading (code_at l.register.reading.bytes.now l.at) (lines_of l.register.reading.bytes.now) ≡ l.i + leading_from l.register.reading.bytes.now (code_at l.register.reading.bytes.now l.at) l.i;
-}
+invariant-loop-i l =
+    let b = l.register.reading.bytes.now in
+    record {
+      counted : l.n ≡ count_of b;
+      left : leading (code_at b l.at) (lines_of b) ≡ l.i + leading_from b (code_at b l.at) l.i;
+    }
