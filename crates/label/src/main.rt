@@ -11,6 +11,7 @@ use tables::ROW;
 use texts::{MOST_LINES, MOST_TEXT};
 
 /// One byte more than the longest text of a table is read, so that a longer one is told from it.
+// Fixed buffers here: a Vec could run out of memory, an end that no input has now.
 fn main(rt: HostRuntime) -> io::Result<()> {
     let mut text = [0u8; MOST_TEXT + 1];
     let n = reader::read_full(&rt, &mut text)?;

@@ -7,7 +7,7 @@ ghost use Rattle.registers.specs.Layout.{entry_place, entry_size};
 use answers::Refusal;
 use std::io;
 use std::io::Write;
-use texts::LINE;
+use texts::{LINE, Unreadable};
 
 /// Prints the lines of the first n entries.
 pub fn lines(rt: &impl Print, register: &[u8], n: usize) -> io::Result<()>
@@ -20,6 +20,7 @@ pub fn lines(rt: &impl Print, register: &[u8], n: usize) -> io::Result<()>
 }
 
 /// Prints the line of entry i.
+// The buffer and its length stay, here and in `refused`: `texts::line` and `texts::refused` promise what they leave in a lent buffer.
 fn line(rt: &impl Print, register: &[u8], i: usize) -> io::Result<()>
     requires entry { entry_place i + entry_size ≤ length register.now }
 {
@@ -37,7 +38,7 @@ pub fn refused(rt: &impl Print, refusal: Refusal) -> io::Result<()> {
 
 /// Prints that what was read is no text of a table or no register of a size that is taken.
 pub fn unreadable(rt: &impl Print) -> io::Result<()> {
-    println!(rt; "unreadable")
+    println!(rt; "{}", Unreadable)
 }
 
 /// Prints a call's answer: its number, or `refused` and the refusal's number.

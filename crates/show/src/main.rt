@@ -10,6 +10,7 @@ use texts::MOST_LINES;
 const MOST_BYTES: usize = HEADER + ENTRY * MOST_LINES;
 
 /// One byte more is read, so that more bytes are told from the largest register.
+// A fixed buffer: a Vec could run out of memory, an end that no input has now.
 fn main(rt: HostRuntime) -> io::Result<()> {
     let mut bytes = [0u8; MOST_BYTES + 1];
     let n = reader::read_full(&rt, &mut bytes)?;

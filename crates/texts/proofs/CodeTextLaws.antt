@@ -48,7 +48,8 @@ pub record Unpacked (field : List ℕ) (n : ℕ) (left : List ℕ) : Type 0 wher
   pub digits : take n left ≡ side_of (read field)
   pub fits : n ≤ length left
 
-module _ (field lent : List ℕ) (room : longest ≤ length lent) (answer : Result ℕ Refusal) (e : answer ≡ (unpack_outcome field lent).answer) where
+module _ (field lent : List ℕ) (room : longest ≤ length lent)
+    (answer : Result ℕ Refusal) (e : answer ≡ (unpack_outcome field lent).answer) where
   pub refused_side : (why : Refusal) → answer ≡ Err why → side_of (read field) ≡ []
   refused_side why r = go (read field) refl
     where
@@ -91,7 +92,8 @@ pub unpacked_length : (field : List ℕ) (n : ℕ) (left : List ℕ) → Unpacke
 unpacked_length field n left u = sym (length-map (take n left) digit_byte) ∙ ap length (unpacked_text field n left u)
 
 -- one digit more
-pub digits_more : (x : List ℕ) (j : ℕ) → j < length x → map digit_byte (take (j + 1) x) ≡ map digit_byte (take j x) ++ (digit_byte (get_or x j 0) ∷ [])
+pub digits_more : (x : List ℕ) (j : ℕ) → j < length x
+    → map digit_byte (take (j + 1) x) ≡ map digit_byte (take j x) ++ (digit_byte (get_or x j 0) ∷ [])
 digits_more x j h =
     ap (λ (y : List ℕ). map digit_byte y) (ap (λ (n : ℕ). take n x) (add-one j) ∙ take-suc x j 0 h) ∙ map_append digit_byte (take j x) _
 

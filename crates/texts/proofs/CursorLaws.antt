@@ -63,8 +63,8 @@ nothing_written c = rw (put_nil c.out.now c.at, add-zero) refl
 pub digit_written : (c : Cursor) {d : Cursor} (x : ℕ) → d ≡ written c (digit_byte (x % 10) ∷ []) → x < 10 → d ≡ written c (decimal x)
 digit_written c x e h = let r : x % 10 ≡ x = omega arith in e ∙ rw (decimal_one x h, r) refl
 
-pub last_written : (c : Cursor) {d f : Cursor} (x : ℕ) → d ≡ written c (decimal (x / 10)) → f ≡ written d (digit_byte (x % 10) ∷ []) → 10 ≤ x
-    → HasRoom c 0 → f ≡ written c (decimal x)
+pub last_written : (c : Cursor) {d f : Cursor} (x : ℕ) → d ≡ written c (decimal (x / 10))
+    → f ≡ written d (digit_byte (x % 10) ∷ []) → 10 ≤ x → HasRoom c 0 → f ≡ written c (decimal x)
 last_written c x e f h room = more_written c (decimal (x / 10)) e (digit_byte (x % 10) ∷ []) f room ∙ rw (decimal_last x h) refl
 
 pub ruleset cursor = (byte_written, part_written, nothing_written, more_written, few_written)

@@ -15,18 +15,9 @@ use Rattle.texts.proofs.LineLaws.{put_behind}
 
 -- a line by its numbers
 module _ (bytes : List ℕ) where
-  pub no_first : read_number space bytes ≡ no_number → read_line bytes ≡ no_line
+  no_first : read_number space bytes ≡ no_number → read_line bytes ≡ no_line
   unfolding read_line
   no_first e = rw e
-
-  pub no_second : {a : ℕ} {t : List ℕ} → read_number space bytes ≡ number a t → read_number space t ≡ no_number → read_line bytes ≡ no_line
-  unfolding read_line
-  no_second e f = rw (e, f)
-
-  pub no_third : {a : ℕ} {t : List ℕ} {b : ℕ} {u : List ℕ} → read_number space bytes ≡ number a t → read_number space t ≡ number b u
-      → read_number newline u ≡ no_number → read_line bytes ≡ no_line
-  unfolding read_line
-  no_third e f g = rw (e, f, g)
 
   pub all_three : {a : ℕ} {t : List ℕ} {b : ℕ} {u : List ℕ} {c : ℕ} {v : List ℕ} → read_number space bytes ≡ number a t
       → read_number space t ≡ number b u → read_number newline u ≡ number c v → read_line bytes ≡ line a b c v

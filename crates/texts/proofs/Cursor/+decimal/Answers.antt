@@ -12,15 +12,18 @@ decimal-requires t c = (omega arith, omega (arith, decimal_last_length c.args.x 
 pub byte-requires : goal.byte-requires
 byte-requires t c = record {
   room = elim c.if-x-ge10.branch [
-    | then-x-ge10 w ↦ room_left c.args.self.now _ (w.self-is ∙ w.decimal.ensures.text) 1 (omega (arith, decimal_last_length c.args.x (omega arith)))
-    | else-x-ge10 w ↦ room_left c.args.self.now _ (w.self-is ∙ nothing_written c.args.self.now) 1 (omega (arith, one_length c.args.x (omega arith)))
+    | then-x-ge10 w ↦ room_left c.args.self.now _ (w.self-is ∙ w.decimal.ensures.text) 1
+        (omega (arith, decimal_last_length c.args.x (omega arith)))
+    | else-x-ge10 w ↦ room_left c.args.self.now _ (w.self-is ∙ nothing_written c.args.self.now) 1
+        (omega (arith, one_length c.args.x (omega arith)))
   ];
 }
 
 pub returns : goal.returns
 returns t c = record {
   text = elim c.if-x-ge10.branch [
-    | then-x-ge10 w ↦ last_written c.args.self.now c.args.x (w.self-is ∙ w.decimal.ensures.text) c.byte.ensures.text (omega arith) (omega arith)
+    | then-x-ge10 w ↦ last_written c.args.self.now c.args.x (w.self-is ∙ w.decimal.ensures.text)
+        c.byte.ensures.text (omega arith) (omega arith)
     | else-x-ge10 w ↦ digit_written c.args.self.now c.args.x (rw w.self-is at c.byte.ensures.text) (omega arith)
   ];
 }
