@@ -114,7 +114,8 @@ fn attempt(rt: &impl Print, name: &str, register: &mut [u8], edit: Edit) -> io::
     println!(rt)
 }
 
-/// The same with a register's first bytes alone.
+/// The same with a register's first bytes alone. The part is taken here: tried at the callers, where its bound is left open after an
+/// earlier call.
 fn attempt_in(
     rt: &impl Print,
     name: &str,

@@ -295,7 +295,7 @@ fn longest(rt: &impl Print) -> io::Result<()> {
     called(rt, &cases, between)
 }
 
-/// The packer updated where it stands: 223 again.
+/// The packer updated where it stands: 223 again. A call for each digit, since each is proved to follow the one before.
 fn packer(rt: &impl Print) -> io::Result<()> {
     let one = codes::byte_after(0, 0, 2);
     let two = codes::byte_after(one, 1, 2);
