@@ -77,7 +77,13 @@ module _ (x y : List ℕ) (p : IsField x) (q : IsField y) where
   words =
       let turn = is_below_word x y p.size q.size p.bytes q.bytes in
       turn 0 (omega arith)
-      ∙ rw (turn 1 (omega arith), turn 2 (omega arith), turn 3 (omega arith), drop_words x 4 p.size (omega arith), drop_words y 4 q.size (omega arith)) refl
+      ∙ rw (
+        turn 1 (omega arith),
+        turn 2 (omega arith),
+        turn 3 (omega arith),
+        drop_words x 4 p.size (omega arith),
+        drop_words y 4 q.size (omega arith),
+      ) refl
 
 -- The same of values that a function has read, each with what it is.
 

@@ -265,7 +265,8 @@ pub end_mask : (v z : ℕ) → v < 2 ^ 64 → z ≡ blanks 32 v
 end_mask v z h e = go (eqb v 0) refl
   where
     go : (s : Bool) → eqb v 0 ≡ s
-        → (eqb (bit_and z ((z + 1) % 18446744073709551616)) 0 && not (eqb (bit_and (v / 2) ((z + 1) % 18446744073709551616)) 0)) ≡ ended 32 v
+        → (eqb (bit_and z ((z + 1) % 18446744073709551616)) 0 && not (eqb (bit_and (v / 2) ((z + 1) % 18446744073709551616)) 0))
+        ≡ ended 32 v
     go false f =
         let k : z + 1 < 18446744073709551616 = omega (arith, e, blanks_some 32 v h (eqb-false v 0 f)) in
         let m : (z + 1) % 18446744073709551616 ≡ z + 1 = omega arith in
@@ -273,7 +274,8 @@ end_mask v z h e = go (eqb v 0) refl
     go true f =
         let n : v ≡ 0 = eqb-true v 0 f in
         let m : v / 2 ≡ 0 = omega arith in
-        rw (m, and_zero_l ((z + 1) % 18446744073709551616), and-false (eqb (bit_and z ((z + 1) % 18446744073709551616)) 0)) (ended_zero 32 v n)
+        rw (m, and_zero_l ((z + 1) % 18446744073709551616), and-false (eqb (bit_and z ((z + 1) % 18446744073709551616)) 0))
+        (ended_zero 32 v n)
 
 pub blanks_wrap : (v : ℕ) → (6148914691236517205 - bit_and (bit_or v (v / 2)) 6148914691236517205) * 3 % 18446744073709551616 ≡ blanks 32 v
 blanks_wrap v = omega (arith, blanks_mask 32 v, blanks_lt 32 v)

@@ -117,7 +117,8 @@ pub fn code_of(field: &Field) -> Code
 #[tactic(auto, using(crate::proofs::ReadingLaws::sizes))]
 fn side(field: &[u8]) -> Result<Option<&Field>, Refusal>
     ensures side { MatchResult result
-        (λ side. MatchOption side (is_empty_held (read field.now) ≡ true) (λ code. (code.now ≡ field.now) × (is_code_held (read field.now) ≡ true)))
+        (λ side. MatchOption side (is_empty_held (read field.now) ≡ true)
+        (λ code. (code.now ≡ field.now) × (is_code_held (read field.now) ≡ true)))
         (λ refusal. (refusal ≡ Refusal.NoCode) × ((is_code_held (read field.now) ≡ false) × (is_empty_held (read field.now) ≡ false))) }
 {
     if holds_code(field) {

@@ -142,7 +142,8 @@ module _ (b : List ℕ) (f : Forest (Entry Name)) (h : Holds b f) where
         (order_answer (label_bytes b i) (label_bytes b j))
     says_order =
         subst (SaysOrder (Before u.name v.name t) (u.name ≡ v.name) (Before v.name u.name t))
-        (sym (signed_answered (λ z. z) _ _ _ ∙ asked_lines b i j sound in_i in_j order)) (go (order_by u.start v.start) (ordered u.start v.start))
+        (sym (signed_answered (λ z. z) _ _ _ ∙ asked_lines b i j sound in_i in_j order))
+        (go (order_by u.start v.start) (ordered u.start v.start))
       where
         go : (a : ℤ) → Ordered u.start v.start a
             → SaysOrder (Before u.name v.name t) (u.name ≡ v.name) (Before v.name u.name t) a
@@ -156,7 +157,8 @@ module _ (b : List ℕ) (f : Forest (Entry Name)) (h : Holds b f) where
     says_above =
         let c = above_codes starts ends f h.whole.sound.rising u v hu hv in
         let g = ancestor_image names f one_name u v hu hv in
-        subst (Says (Ancestor u.name v.name t)) (sym (signed_answered yes_no _ _ _ ∙ asked_lines b i j sound in_i in_j (λ x y. yes_no (is_above x y))))
+        subst (Says (Ancestor u.name v.name t))
+        (sym (signed_answered yes_no _ _ _ ∙ asked_lines b i j sound in_i in_j (λ x y. yes_no (is_above x y))))
         (says _ (is_above (label_in u) (label_in v)) (λ e. g.0 (c.0 (above_gives (label_in u) (label_in v) e)))
         (λ a. let d = c.1 (g.1 a) in gives_above (label_in u) (label_in v) d.0 d.1))
 
@@ -164,14 +166,16 @@ module _ (b : List ℕ) (f : Forest (Entry Name)) (h : Holds b f) where
     says_parent =
         let c = parent_codes starts ends parents f h.whole.sound.rising h.whole.sound.parented u v hu hv in
         let g = parent_image names f one_name u v hu hv in
-        subst (Says (Parent u.name v.name t)) (sym (signed_answered yes_no _ _ _ ∙ asked_lines b i j sound in_i in_j (λ x y. yes_no (is_parent x y))))
+        subst (Says (Parent u.name v.name t))
+        (sym (signed_answered yes_no _ _ _ ∙ asked_lines b i j sound in_i in_j (λ x y. yes_no (is_parent x y))))
         (says _ (is_parent (label_in u) (label_in v)) (λ e. g.0 (c.0 (parent_gives u v e))) (λ a. gives_parent u v (c.1 (g.1 a))))
 
     says_sibling : Says (Sibling u.name v.name t) (sibling_answer (label_bytes b i) (label_bytes b j))
     says_sibling =
         let c = sibling_codes starts ends parents f h.whole.sound.rising h.whole.sound.parented u v hu hv in
         let g = sibling_image names f one_name u v hu hv in
-        subst (Says (Sibling u.name v.name t)) (sym (signed_answered yes_no _ _ _ ∙ asked_lines b i j sound in_i in_j (λ x y. yes_no (is_sibling x y))))
+        subst (Says (Sibling u.name v.name t))
+        (sym (signed_answered yes_no _ _ _ ∙ asked_lines b i j sound in_i in_j (λ x y. yes_no (is_sibling x y))))
         (says _ (is_sibling (label_in u) (label_in v)) (λ e. g.0 (c.0 (sibling_gives u v e))) (λ a. gives_sibling u v (c.1 (g.1 a))))
 
   found : (i : ℕ) → i < size t → found_in b (line_at b i).name.identity ≡ At i

@@ -25,7 +25,8 @@ use Rattle.labels.specs.Questions.{order, is_above, is_orphan, is_parent, is_sib
 use Rattle.labels.proofs.LabelLaws.{SoundFields}
 
 -- a refusal, or the answer
-pub left_refused : {A : Type 0} (u v : List ℕ) (answer : A) (r : Refusal) → is_sound u ≡ false → r ≡ refusals.Label → Err r ≡ answered u v answer
+pub left_refused : {A : Type 0} (u v : List ℕ) (answer : A) (r : Refusal) → is_sound u ≡ false → r ≡ refusals.Label
+    → Err r ≡ answered u v answer
 unfolding answered
 left_refused u v answer r e f = sym (rw (e, f) refl)
 
@@ -122,5 +123,6 @@ module _ (us ue up vs ve vp : List ℕ) (u v : Label) (s : SoundFields us ue up 
       sym (and_assoc (not (eqb (get_or up 0 0) 0)) (is_same up vp) (not (is_same us vs)))
       ∙ rw (e, f, g) (sym (ap (λ (r : Bool). r && not (is_same u.start v.start)) (orphan_both (is_same u.parent v.parent) refl)))
 
-  pub sibling_by : (a b c : Bool) → a ≡ not (eqb (get_or up 0 0) 0) → b ≡ is_same up vp → c ≡ is_same us vs → (a && (b && not c)) ≡ is_sibling u v
+  pub sibling_by : (a b c : Bool) → a ≡ not (eqb (get_or up 0 0) 0) → b ≡ is_same up vp → c ≡ is_same us vs
+      → (a && (b && not c)) ≡ is_sibling u v
   sibling_by a b c e f g = rw (e, f, g) sibling_fields

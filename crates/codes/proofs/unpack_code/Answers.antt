@@ -31,5 +31,6 @@ returns c =
     let h = digits (goal.at.returns c).After-of_field-code in
     let k : length (side_of (read c.args.field.now)) ≤ length c.args.digits.now = omega (arith, h.count) in
     let t = gives _ _ _ _ _ (unpack_written c.args.field.now c.args.digits.now _ (held_code _ c.requires.held) k) (ap Ok h.count)
-    (put_copied_front _ _ _ _ (h.count ∙ sym (ap length h.digits)) c.copy_from_slice.ensures.after ∙ ap (put c.args.digits.now 0) h.digits) in
+    (put_copied_front _ _ _ _ (h.count ∙ sym (ap length h.digits)) c.copy_from_slice.ensures.after
+    ∙ ap (put c.args.digits.now 0) h.digits) in
     record { answer = t.0; bytes = t.1 }

@@ -11,5 +11,6 @@ packed-requires c = record { slots = code_slots (digits_of c.args.code) c.requir
 
 pub returns : goal.returns
 returns c = record {
-  bytes = put_copied _ _ _ _ _ (omega (arith, field_length (digits_of c.args.code))) (c.copy_from_slice.ensures.after ∙ c.packed.ensures.field);
+  bytes = put_copied _ _ _ _ _ (omega (arith, field_length (digits_of c.args.code)))
+      (c.copy_from_slice.ensures.after ∙ c.packed.ensures.field);
 }

@@ -21,4 +21,7 @@ pub returns : goal.returns
 returns c =
     let u = c.in_ok-read.ensures.sound in
     let v = c.in_ok-read-2.ensures.sound in
-    record { answer = both_answered c.args.u.now c.args.v.now _ _ u.0 v.0 (read_back w32 _ c.order.type_inv ∙ c.order.ensures.order ∙ rw (u.1, v.1) refl) }
+    record {
+      answer = both_answered c.args.u.now c.args.v.now _ _ u.0 v.0
+          (read_back w32 _ c.order.type_inv ∙ c.order.ensures.order ∙ rw (u.1, v.1) refl);
+    }

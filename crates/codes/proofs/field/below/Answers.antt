@@ -3,7 +3,9 @@ use Rattle.codes.proofs.CompareLaws.{first_apart, second_apart, last_apart}
 use Rattle.codes.proofs.field.below.Goals as goal
 
 pub returns-then-a-b : goal.returns-then-a-b
-returns-then-a-b c = record { order = first_apart _ _ c.fits-left c.told-left c.fits-right c.told-right _ _ c.word-a.ensures c.word-b.ensures c.if-a-b.true }
+returns-then-a-b c = record {
+  order = first_apart _ _ c.fits-left c.told-left c.fits-right c.told-right _ _ c.word-a.ensures c.word-b.ensures c.if-a-b.true;
+}
 
 pub returns-then-a-b-2 : goal.returns-then-a-b-2
 returns-then-a-b-2 c = record {

@@ -12,7 +12,8 @@ returns-then-digit-eq0 c =
     let n : length x ≡ 128 = spread_length c.args.field.now ∙ omega (arith, c.told-field) in
     record {
       held = stored_all _ x _ i (omega (arith, n, c.loop-i-test.true)) c.loop-i.invariant.array
-          (led_zero x i (omega (arith, n, c.loop-i-test.true)) (sym c.slot-digit.ensures.digit ∙ c.if-digit-eq0.true) c.loop-i.invariant.led);
+          (led_zero x i (omega (arith, n, c.loop-i-test.true)) (sym c.slot-digit.ensures.digit ∙ c.if-digit-eq0.true)
+          c.loop-i.invariant.led);
     }
 
 pub loop-i-preserved : goal.loop-i-preserved
@@ -23,7 +24,8 @@ loop-i-preserved c =
     let h = c.loop-i-test.true in
     record {
       size = simp length-set c.loop-i.invariant.size;
-      array = stored_next c.loop-i.digits x i _ (omega (arith, h, c.loop-i.invariant.size)) (omega (arith, n, h)) c.slot-digit.ensures.digit c.loop-i.invariant.array;
+      array = stored_next c.loop-i.digits x i _ (omega (arith, h, c.loop-i.invariant.size)) (omega (arith, n, h))
+          c.slot-digit.ensures.digit c.loop-i.invariant.array;
       led = led_next x i (omega (arith, n, h)) (λ z. c.if-digit-eq0.false (c.slot-digit.ensures.digit ∙ z)) c.loop-i.invariant.led;
     }
 
