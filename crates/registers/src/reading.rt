@@ -1,13 +1,13 @@
 //! A register that is read: bytes in which all entries stand that they count, and such bytes that were found to be sound.
-ghost use Rattle.std.specs.Prelude.{◌≡◌, true, false, ◌≤◌, ◌<◌, length, IfSome, IfOk, MatchOption, MatchResult};
+ghost use Rattle.std.specs.Prelude.{◌≡◌, true, false, ◌<◌, MatchOption, MatchResult};
 ghost use Rattle.digits.specs.Order.{is_below};
 ghost use Rattle.codes.specs.Reading.{is_same};
 ghost use Rattle.codes.specs.Spread.{Held, Short};
 ghost use Rattle.identities.specs.Rows.{is_all_new};
-ghost use Rattle.registers.specs.Layout.{header_size, HasPlace};
+ghost use Rattle.registers.specs.Layout.{HasPlace};
 ghost use Rattle.registers.specs.Entries.{code_at};
 ghost use Rattle.registers.specs.Holds.{identities};
-ghost use Rattle.registers.specs.Sound.{line_at, is_sound_label, label_bytes, HasEntries, CodeAt, SideAt};
+ghost use Rattle.registers.specs.Sound.{line_at, is_sound_label, HasEntries, CodeAt, SideAt};
 ghost use Rattle.registers.specs.Questions.{count_of, lines_of, is_sized, is_register_sound, found_in, depth_in};
 ghost use Rattle.answers.specs.declared.Refusal.{Refusal};
 

@@ -2,10 +2,10 @@
 ghost use Rattle.std.specs.Prelude.{◌≡◌, true, false, ◌&&◌, [], ◌+◌, ◌≤◌, ◌<◌, MatchOption};
 ghost use Rattle.digits.specs.Order.{is_below};
 ghost use Rattle.codes.specs.Reading.{is_same};
-ghost use Rattle.registers.specs.Layout.{most_entries, start_place, end_place, parent_place};
+ghost use Rattle.registers.specs.Layout.{start_place, end_place, parent_place};
 ghost use Rattle.registers.specs.Entries.{code_at};
 ghost use Rattle.registers.specs.Sound.{is_sound_labels, line_at, is_tree, children_from, entry_from, CodeAt};
-ghost use Rattle.registers.specs.Questions.{is_above_entry, count_of};
+ghost use Rattle.registers.specs.Questions.{is_above_entry};
 
 use crate::reading::Reading;
 use crate::{DEEPEST, end_place, parent_place, start_place};
@@ -50,7 +50,7 @@ impl<'a> Labelled<'a> {
     }
 
     /// An entry under its parent, between the code at `low` and its parent's end, with its row of children: where the next stands.
-    /// The walk stays a cycle of `entry` and `row` with the loop in the row: so the depth of calls stays at 63 entries.
+    /// A rule of the project keeps the walk as the cycle of `entry` and `row`, with its loop in the row and a depth of at most 63.
     #[cycle(entry_row)]
     fn entry(&self, at: usize, low: usize, parent: usize, depth: u32) -> Option<usize>
         requires places { (at < self.now.reading.count) × (parent < self.now.reading.count) }
