@@ -297,7 +297,8 @@ module _ (b : List ℕ) (n : ℕ) (some : 0 < n) where
         let v : n - suc (length us) ≡ end = to_is g in
         ne_eqb end n (λ z. omega (arith, q.0))
 
-    pub tree_end : is_same (code_at b (parent_place 0)) [] ≡ true → (end : ℕ) → children_from b n 0 1 (code_at b (start_place 0)) 1 ≡ Some end
+    pub tree_end : is_same (code_at b (parent_place 0)) [] ≡ true
+        → (end : ℕ) → children_from b n 0 1 (code_at b (start_place 0)) 1 ≡ Some end
         → eqb end n ≡ is_tree b n
     tree_end o end g = all_used inside refl end (sym inside_is ∙ g) ∙ sym (tree_whole o)
 

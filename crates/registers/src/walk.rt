@@ -21,7 +21,8 @@ impl<'a> Labelled<'a> {
     /// The entries, where their labels are sound.
     #[tactic(auto, using(crate::proofs::ReadingLaws::labels_not))]
     fn check(reading: &Reading<'a>) -> Option<Self>
-        ensures labels { MatchOption result (is_sound_labels reading.now.bytes.now reading.now.count ≡ false) (λ l. l.reading ≡ reading.now) }
+        ensures labels { MatchOption result (is_sound_labels reading.now.bytes.now reading.now.count ≡ false)
+            (λ l. l.reading ≡ reading.now) }
     {
         for i in 0..reading.count {
             if !reading.sound_label(i) {

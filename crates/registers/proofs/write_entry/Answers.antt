@@ -17,7 +17,8 @@ returns c = record {
       let x = digits_of c.args.entry.now.start in
       let y = digits_of c.args.entry.now.end in
       five_runs c.args.register.now _ _ _ _ _ (le4 c.args.entry.now.name.identity) (le4 c.args.entry.now.name.tag) (field_of x) (field_of y)
-      (field_of (digits_of c.args.entry.now.parent)) (entry_place c.args.i) _ _ _ _ _ (omega arith) (omega arith) (omega arith) (omega arith)
+      (field_of (digits_of c.args.entry.now.parent)) (entry_place c.args.i) _ _ _ _ _ (omega arith) (omega arith)
+      (omega arith) (omega arith)
       (omega (arith, field_length x)) (omega (arith, field_length y)) c.write_u32.ensures.bytes c.write_u32-2.ensures.bytes
       c.write_code.ensures.bytes c.write_code-2.ensures.bytes c.write_code-3.ensures.bytes;
 }

@@ -9,4 +9,5 @@ use Rattle.registers.proofs.reading.Sound.depth_at.Given as goal
 abbrev pub invariant-loop-i : goal.invariant-loop-i
 invariant-loop-i l =
     (l.depth ≤ l.i)
-    × (l.depth + depth_from l.self.reading.bytes.now l.place l.i ≡ depth_in (line_at l.self.reading.bytes.now l.place) (lines_of l.self.reading.bytes.now))
+    × (l.depth + depth_from l.self.reading.bytes.now l.place l.i
+    ≡ depth_in (line_at l.self.reading.bytes.now l.place) (lines_of l.self.reading.bytes.now))

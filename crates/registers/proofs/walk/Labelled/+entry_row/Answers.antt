@@ -76,7 +76,8 @@ row-returns-in_err-next t c =
     let b = l.reading.bytes.now in
     let low = below_at b _ _ _ _ _ c.fields_below.ensures.below c.start_place.ensures.place c.end_place.ensures.place in
     record {
-      walked = c.from_residual.ensures ∙ sym (c.loop-i.invariant.3 ∙ row_un b l.reading.count a.parent a.depth (code_at b c.loop-i.low) c.loop-i.i
+      walked = c.from_residual.ensures ∙ sym (c.loop-i.invariant.3 ∙ row_un b l.reading.count a.parent a.depth
+          (code_at b c.loop-i.low) c.loop-i.i
           (l.reading.entries, l.labels) c.requires.places.1 c.loop-i-test.true (sym low ∙ c.if-not-fields_below.false)
           (sym c.in_err-next.ensures.walked));
     }
