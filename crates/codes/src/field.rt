@@ -122,7 +122,7 @@ pub fn is_empty(field: &[u8]) -> bool
 fn last_two(field: &Field) -> u128
     ensures { result ≡ last_two_of field.now }
 {
-    word(field, 2) as u128 * WORD + word(field, 3) as u128
+    u128::from(word(field, 2)) * WORD + u128::from(word(field, 3))
 }
 
 // Minus one, zero or plus one.

@@ -6,8 +6,8 @@ use Rattle.answers.specs.Outcome.{Outcome}
 use Rattle.answers.specs.Signed.{signed_of, signed_row_of}
 use Rattle.codes.specs.Calls.{pack_outcome, unpack_outcome, between_outcome}
 use Rattle.labels.specs.Label.{is_sound}
-use Rattle.labels.specs.Questions.{order_answer, above_answer, parent_answer, sibling_answer}
-use Rattle.registers.specs.Questions.{is_register_sound, place_answer, depth_answer, distance_answer}
+use Rattle.labels.specs.Questions.{order_result, above_result, parent_result, sibling_result, order_answer, above_answer, parent_answer, sibling_answer}
+use Rattle.registers.specs.Questions.{is_register_sound, place_answer, depth_result, distance_result, depth_answer, distance_answer}
 use Rattle.tables.specs.Labelling.{label_outcome}
 use Rattle.edits.specs.declared.Place.TheVariants.{FirstChildOf, LastChildOf, Before, After}
 use Rattle.edits.specs.declared.Edit.{Edit}
@@ -31,13 +31,13 @@ pub record OneAnswer : Type 0 where
   pub pack : (digits lent : List ℕ) → OneWith itself (pack_outcome digits lent)
   pub unpack : (field lent : List ℕ) → OneWith itself (unpack_outcome field lent)
   pub between : (left right lent : List ℕ) → OneWith itself (between_outcome left right lent)
-  pub order : (u v : List ℕ) → One (order_answer u v)
-  pub above : (u v : List ℕ) → One (above_answer u v)
-  pub parent : (u v : List ℕ) → One (parent_answer u v)
-  pub sibling : (u v : List ℕ) → One (sibling_answer u v)
+  pub order : (u v : List ℕ) → One (order_result u v)
+  pub above : (u v : List ℕ) → One (above_result u v)
+  pub parent : (u v : List ℕ) → One (parent_result u v)
+  pub sibling : (u v : List ℕ) → One (sibling_result u v)
   pub place : (register : List ℕ) (x : ℕ) → One (place_answer register x)
-  pub depth : (register : List ℕ) (x : ℕ) → One (depth_answer register x)
-  pub distance : (register : List ℕ) (x y : ℕ) → One (distance_answer register x y)
+  pub depth : (register : List ℕ) (x : ℕ) → One (depth_result register x)
+  pub distance : (register : List ℕ) (x y : ℕ) → One (distance_result register x y)
   pub label : (table lent : List ℕ) → OneWith itself (label_outcome table lent)
   pub apply : (lent : List ℕ) (edit : Edit) → OneWith itself (apply_outcome lent edit)
   pub label_sound : (label : List ℕ) → One (is_sound label)
