@@ -7,9 +7,6 @@ use native.Mathlib.Numerals.{add-one}
 use native.Mathlib.Omega.{arith}
 use lib.ListN.{length, take, drop, get_or, set, length-append, drop_of_length-le}
 use lib.Seq.{take-suc, take-suc-set, drop-cons, length-take-le}
-use mir.Val.{Val}
-use denote.Laws.{Is}
-use denote.Struct.Declared.{row}
 use Rattle.digits.specs.Order.{Digits}
 use Rattle.digits.specs.Between.{remade}
 use Rattle.digits.proofs.OrderLaws.{Compared, lt, eq, gt, compared, compare_is}
@@ -17,11 +14,6 @@ use Rattle.digits.proofs.BetweenLaws.{remade_append}
 use Rattle.codes.specs.declared.spread.Code.{Code}
 use Rattle.codes.specs.Field.{quads, spread, lead}
 use Rattle.codes.specs.Spread.{digits_of, Held, Fit}
-use Rattle.codes.specs.contracts.spread.Code.{the_type}
-
--- whoever has a code by value knows how long its array is
-pub whole : (c : Code) (vs : List Val) → Is (row the_type) c vs → length c.digits ≡ 128
-whole c vs known = known.1.1.0.1.0.1
 
 digits_length : (c : Code) → length c.digits ≡ 128 → c.count ≤ 128 → length (digits_of c) ≡ c.count
 digits_length c w h = length-take-le c.count c.digits (omega arith)

@@ -94,7 +94,7 @@ fn between_sides(left: &Field, right: &Field, field: &mut [u8]) -> Result<usize,
     if field.len() < Code::FIELD {
         return Err(Refusal::Room);
     }
-    let made = spread::step(spread::of_field(left), spread::of_field(right));
+    let made = spread::step(&spread::of_field(left), &spread::of_field(right));
     let n = made.count;
     if Code::LONGEST < n {
         return Err(Refusal::CodeLength);
@@ -142,7 +142,6 @@ fn sides(left: &[u8], right: &[u8]) -> Result<(), Refusal>
 }
 
 // The field of some digits.
-#[inline(always)]
 fn packed(digits: &[u8]) -> Field
     requires slots { Slots digits.now }
     ensures field { result ≡ field_of digits.now }
@@ -168,10 +167,10 @@ fn write_field(field: &mut [u8], digits: &[u8])
 
 /// Writes the field of a code that was made over the bytes from a place on.
 #[inline(always)]
-pub fn write_code(buffer: &mut [u8], at: usize, code: Code)
+pub fn write_code(buffer: &mut [u8], at: usize, code: &Code)
     requires room { at + field_size ≤ length buffer.old }
-    requires code { IsCode (digits_of code) }
-    ensures bytes { buffer.new ≡ put buffer.old at (field_of (digits_of code)) }
+    requires code { IsCode (digits_of code.now) }
+    ensures bytes { buffer.new ≡ put buffer.old at (field_of (digits_of code.now)) }
 {
     buffer[at..at + Code::FIELD].copy_from_slice(&packed(&code.digits[..code.count]));
 }
@@ -191,10 +190,14 @@ fn is_code(digits: &[u8]) -> bool
     are_digits(rest) & ((1 < *last) & (*last < 4))
 }
 
-// Each of the digits is 1, 2 or 3.
+// Each of the digits is 1, 2 or 3. All are looked at, with no branch on one: that is faster than to stop at the first that is none.
 #[inline(always)]
 fn are_digits(digits: &[u8]) -> bool
     ensures { result ≡ list_all is_digit digits.now }
 {
-    digits.iter().all(|digit| 1 <= *digit && *digit < 4)
+    let mut all = true;
+    for digit in digits {
+        all &= (1 <= *digit) & (*digit < 4);
+    }
+    all
 }

@@ -44,76 +44,85 @@ impl Code {
 
     // Digits put behind its own.
     #[inline(always)]
-    fn followed_by(mut self, behind: &[u8]) -> Self
-        requires room { self.count + length behind.now ≤ 128 }
-        ensures held { Held result (digits_of self ++ behind.now) }
+    fn extend(&mut self, behind: &[u8])
+        requires room { self.old.count + length behind.now ≤ 128 }
+        ensures held { Held self.new (digits_of self.old ++ behind.now) }
     {
         let n = self.count;
         let end = n + behind.len();
         self.digits[n..end].copy_from_slice(behind);
         self.count = end;
-        self
     }
 
     // The last digit, where it is a 2, made the digits `two`, and else the digits `three`.
     #[inline(always)]
-    fn remade(mut self, two: &[u8], three: &[u8]) -> Self
-        requires code { Fit self }
+    fn remake(&mut self, two: &[u8], three: &[u8])
+        requires code { Fit self.old }
         requires few { (length two.now ≤ 2) × (length three.now ≤ 2) }
-        ensures held { Held result (remade (made_of two.now three.now) (digits_of self)) }
+        ensures held { Held self.new (remade (made_of two.now three.now) (digits_of self.old)) }
     {
         self.count -= 1;
         if self.digits[self.count] == 2 {
-            return self.followed_by(two);
+            self.extend(two);
+        } else {
+            self.extend(three);
         }
-        self.followed_by(three)
     }
 }
 
 /// The one code between two sides; a side with no digits is open.
 #[inline(always)]
-pub fn step(left: Code, right: Code) -> Code
-    requires left { Short left }
-    requires right { Short right }
-    ensures held { Held result (between (digits_of left) (digits_of right)) }
+pub fn step(left: &Code, right: &Code) -> Code
+    requires left { Short left.now }
+    requires right { Short right.now }
+    ensures held { Held result (between (digits_of left.now) (digits_of right.now)) }
 {
     if left.count < right.count {
-        return right.remade(&[1, 2], &[2]);
+        let mut made = *right;
+        made.remake(&[1, 2], &[2]);
+        return made;
     }
+    let mut made = *left;
     if right.count < left.count {
-        return left.remade(&[3], &[3, 2]);
+        made.remake(&[3], &[3, 2]);
+    } else {
+        made.extend(&[2]);
     }
-    left.followed_by(&[2])
+    made
 }
 
 // One of the two codes that cut a gap in three: the left code with `behind` behind it, or a longer right one remade.
 #[inline(always)]
-fn cut(left: Code, right: Code, behind: &[u8], two: &[u8], three: &[u8]) -> Code
-    requires left { Short left }
-    requires right { Short right }
+fn cut(left: &Code, right: &Code, behind: &[u8], two: &[u8], three: &[u8]) -> Code
+    requires left { Short left.now }
+    requires right { Short right.now }
     requires few { (length behind.now ≤ 1) × ((length two.now ≤ 2) × (length three.now ≤ 2)) }
-    ensures held { Held result (cut_by behind.now two.now three.now (digits_of left) (digits_of right)) }
+    ensures held { Held result (cut_by behind.now two.now three.now (digits_of left.now) (digits_of right.now)) }
 {
     if right.count <= left.count {
-        return left.followed_by(behind);
+        let mut made = *left;
+        made.extend(behind);
+        return made;
     }
-    right.remade(two, three)
+    let mut made = *right;
+    made.remake(two, three);
+    made
 }
 
 /// The lower of the two codes that cut a gap in three.
-pub fn lower_cut(left: Code, right: Code) -> Code
-    requires left { Short left }
-    requires right { Short right }
-    ensures held { Held result (first (digits_of left) (digits_of right)) }
+pub fn lower_cut(left: &Code, right: &Code) -> Code
+    requires left { Short left.now }
+    requires right { Short right.now }
+    ensures held { Held result (first (digits_of left.now) (digits_of right.now)) }
 {
     cut(left, right, &[2], &[1, 2], &[2])
 }
 
 /// The upper one.
-pub fn upper_cut(left: Code, right: Code) -> Code
-    requires left { Short left }
-    requires right { Short right }
-    ensures held { Held result (second (digits_of left) (digits_of right)) }
+pub fn upper_cut(left: &Code, right: &Code) -> Code
+    requires left { Short left.now }
+    requires right { Short right.now }
+    ensures held { Held result (second (digits_of left.now) (digits_of right.now)) }
 {
     cut(left, right, &[3], &[1, 3], &[2, 3])
 }
@@ -128,7 +137,6 @@ fn slot(field: &[u8], i: usize) -> u8
 }
 
 // The digits of a field up to its separator.
-#[inline(always)]
 pub(crate) fn of_field(field: &Field) -> Code
     ensures held { Held result (lead (spread field.now)) }
 {

@@ -161,8 +161,8 @@ fn plan_at(register: &Sound, place: Place, at: usize, name: Name) -> Result<Plan
 {
     let gap = neighbours(register, place, at);
     let right = register.reading.code_at(gap.right);
-    let start = fitting(codes::step(register.reading.code_at(gap.left), right))?;
-    let end = fitting(codes::step(start, right))?;
+    let start = fitting(codes::step(&register.reading.code_at(gap.left), &right))?;
+    let end = fitting(codes::step(&start, &right))?;
     let parent = register.reading.code_at(place.parent_from(at));
     Ok(Planned {
         place: search::starts_below(register, gap.right),

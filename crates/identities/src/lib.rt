@@ -14,7 +14,7 @@ pub const PLACES: usize = 8192;
 /// fixed memory forbids, and a sort of the identities takes 2.5 times as long (60 against 24 microseconds for 4,096).
 #[derive(Drop)]
 pub struct Used {
-    places: [u32; PLACES],
+    pub places: [u32; PLACES],
 }
 
 impl Model for Used {

@@ -5,9 +5,11 @@ ghost use Rattle.std.specs.Prelude.{◌≡◌, ◌++◌, [], ◌+◌, ◌≤◌,
 ghost use Rattle.numbers.specs.Bytes.{put, le4};
 ghost use Rattle.codes.specs.Code.{IsCode};
 ghost use Rattle.codes.specs.Field.{field_of};
-ghost use Rattle.codes.specs.Spread.{digits_of};
+ghost use Rattle.codes.specs.Spread.{digits_of, Held, Short};
 ghost use Rattle.labels.specs.Label.{field_at, label_size};
-ghost use Rattle.registers.specs.Entries.{entry_bytes};
+ghost use Rattle.digits.specs.Order.{is_below};
+ghost use Rattle.registers.specs.Entries.{code_at, entry_bytes};
+ghost use Rattle.registers.specs.Sound.{CodeAt};
 ghost use Rattle.registers.specs.Questions.{count_of, is_register_sound, place_answer, depth_result, distance_result};
 ghost use Rattle.registers.specs.Layout.{most_entries, count_at, header_size, label_at, entry_place, start_place, end_place, parent_place, HasPlace};
 
@@ -108,6 +110,28 @@ pub fn count(register: &[u8]) -> usize
     numbers::read_u32(register, COUNT) as usize
 }
 
+/// The code of a field, spread out.
+// It stays beside the method of `Reading`: of the bytes it asks only that the field holds a code.
+#[inline(always)]
+pub fn code_at(register: &[u8], at: usize) -> Code
+    requires code { CodeAt register.now at }
+    ensures held { Held result (code_at register.now at) }
+    ensures short { Short result }
+{
+    codes::code_of(labels::field(register, at))
+}
+
+/// The code of one field is below that of another.
+// It stays beside the method of `Reading`: of the bytes it asks only that the two fields hold codes.
+#[inline(always)]
+#[tactic(auto, using(crate::proofs::SoundLaws::codes_below))]
+pub fn fields_below(register: &[u8], x: usize, y: usize) -> bool
+    requires codes { CodeAt register.now x × CodeAt register.now y }
+    ensures below { result ≡ is_below (code_at register.now x) (code_at register.now y) }
+{
+    codes::below(labels::field(register, x), labels::field(register, y))
+}
+
 /// Where entry i begins.
 #[inline(always)]
 pub fn entry_place(i: usize) -> usize
@@ -165,11 +189,11 @@ pub fn write_header(register: &mut [u8], count: usize)
 }
 
 /// Leaves identity, tag and start of entry i, and an empty end.
-pub fn begin(register: &mut [u8], i: usize, name: Name, start: Code)
+pub fn begin(register: &mut [u8], i: usize, name: Name, start: &Code)
     requires place { HasPlace register.old i }
-    requires start { IsCode (digits_of start) }
+    requires start { IsCode (digits_of start.now) }
     ensures bytes { register.new ≡ put register.old (entry_place i)
-        (le4 name.identity ++ (le4 name.tag ++ (field_of (digits_of start) ++ field_of []))) }
+        (le4 name.identity ++ (le4 name.tag ++ (field_of (digits_of start.now) ++ field_of []))) }
 {
     let place = entry_place(i);
     let end = place + ENTRY_LABEL + END;
@@ -180,10 +204,10 @@ pub fn begin(register: &mut [u8], i: usize, name: Name, start: Code)
 }
 
 /// Leaves the end of entry i.
-pub fn write_end(register: &mut [u8], i: usize, end: Code)
+pub fn write_end(register: &mut [u8], i: usize, end: &Code)
     requires place { HasPlace register.old i }
-    requires end { IsCode (digits_of end) }
-    ensures bytes { register.new ≡ put register.old (end_place i) (field_of (digits_of end)) }
+    requires end { IsCode (digits_of end.now) }
+    ensures bytes { register.new ≡ put register.old (end_place i) (field_of (digits_of end.now)) }
 {
     codes::write_code(register, end_place(i), end);
 }
@@ -205,9 +229,9 @@ pub fn write_entry(register: &mut [u8], i: usize, entry: &Entry)
     let at = entry_place(i);
     numbers::write_u32(register, at + IDENTITY, entry.name.identity);
     numbers::write_u32(register, at + TAG, entry.name.tag);
-    codes::write_code(register, at + ENTRY_LABEL + START, entry.start);
-    codes::write_code(register, at + ENTRY_LABEL + END, entry.end);
-    codes::write_code(register, at + ENTRY_LABEL + PARENT, entry.parent);
+    codes::write_code(register, at + ENTRY_LABEL + START, &entry.start);
+    codes::write_code(register, at + ENTRY_LABEL + END, &entry.end);
+    codes::write_code(register, at + ENTRY_LABEL + PARENT, &entry.parent);
 }
 
 /// Leaves an empty parent start in entry i.

@@ -12,7 +12,9 @@ ghost use Rattle.registers.specs.Questions.{count_of, lines_of, is_sized, is_reg
 ghost use Rattle.answers.specs.declared.Refusal.{Refusal};
 
 use crate::walk::Labelled;
-use crate::{ENTRY_LABEL, Found, HEADER, IDENTITY, MOST, ZERO, count, entry_place};
+use crate::{
+    ENTRY_LABEL, Found, HEADER, IDENTITY, MOST, ZERO, code_at, count, entry_place, fields_below,
+};
 use answers::Refusal;
 use codes::Code;
 use labels::LABEL;
@@ -102,17 +104,16 @@ impl<'a> Reading<'a> {
         ensures held { Held result (code_at self.now.bytes.now at) }
         ensures short { Short result }
     {
-        codes::code_of(labels::field(self.bytes, at))
+        code_at(self.bytes, at)
     }
 
     /// The code of one field is below that of another.
-    #[tactic(auto, using(crate::proofs::SoundLaws::codes_below))]
     #[inline(always)]
     pub fn fields_below(&self, x: usize, y: usize) -> bool
         requires codes { CodeAt self.now.bytes.now x × CodeAt self.now.bytes.now y }
         ensures below { result ≡ is_below (code_at self.now.bytes.now x) (code_at self.now.bytes.now y) }
     {
-        codes::below(labels::field(self.bytes, x), labels::field(self.bytes, y))
+        fields_below(self.bytes, x, y)
     }
 
     /// Two fields, each of a code or empty, hold the same.

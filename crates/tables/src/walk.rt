@@ -39,14 +39,14 @@ impl<'a> Walk<'a> {
     // Left and right stay two arguments: each part has a side of its gap and a cut, so a struct would be made anew at each call.
     // The recursion stays: the rule of first codes cuts a gap by two codes, and each part in the same way.
     #[tactic(auto, using(crate::proofs::GapLaws::gaps))]
-    fn gap(&mut self, left: Code, right: Code, width: usize)
+    fn gap(&mut self, left: &Code, right: &Code, width: usize)
         requires ready { Ready self.old.table.now (walk_of self.old) }
-        requires left { Short left }
-        requires right { Short right }
+        requires left { Short left.now }
+        requires right { Short right.now }
         requires width { width ≤ 2 * most_rows + 1 }
-        requires codes { All IsCode (thirds (digits_of left) (digits_of right) width) }
+        requires codes { All IsCode (thirds (digits_of left.now) (digits_of right.now) width) }
         ensures walked { walk_of self.new
-            ≡ walked self.old.table.now (thirds (digits_of left) (digits_of right) width) (walk_of self.old) }
+            ≡ walked self.old.table.now (thirds (digits_of left.now) (digits_of right.now) width) (walk_of self.old) }
         ensures ready { Ready self.new.table.now (walk_of self.new) }
         ensures same { Same self.old self.new }
     {
@@ -54,25 +54,25 @@ impl<'a> Walk<'a> {
             return;
         }
         if width == 2 {
-            self.place(codes::step(left, right));
+            self.place(&codes::step(left, right));
             return;
         }
         let first = (width + 1) / 3;
         let second = (2 * width + 1) / 3;
         let lower = codes::lower_cut(left, right);
         let upper = codes::upper_cut(left, right);
-        self.gap(left, lower, first);
-        self.place(lower);
-        self.gap(lower, upper, second - first);
-        self.place(upper);
-        self.gap(upper, right, width - second);
+        self.gap(left, &lower, first);
+        self.place(&lower);
+        self.gap(&lower, &upper, second - first);
+        self.place(&upper);
+        self.gap(&upper, right, width - second);
     }
 
     /// Writes one code: the start of the next row's entry, or the end of the innermost open one.
-    fn place(&mut self, code: Code)
+    fn place(&mut self, code: &Code)
         requires ready { Ready self.old.table.now (walk_of self.old) }
-        requires code { IsCode (digits_of code) }
-        ensures stepped { walk_of self.new ≡ stepped self.old.table.now (digits_of code) (walk_of self.old) }
+        requires code { IsCode (digits_of code.now) }
+        ensures stepped { walk_of self.new ≡ stepped self.old.table.now (digits_of code.now) (walk_of self.old) }
         ensures ready { Ready self.new.table.now (walk_of self.new) }
         ensures same { Same self.old self.new }
     {
@@ -95,11 +95,11 @@ impl<'a> Walk<'a> {
 
     /// Begins the next row's entry.
     #[tactic(auto, using(crate::proofs::WalkLaws::starts_row))]
-    fn enter(&mut self, start: Code)
+    fn enter(&mut self, start: &Code)
         requires ready { Ready self.old.table.now (walk_of self.old) }
         requires starts { is_start self.old.table.now self.old.row self.old.level ≡ true }
-        requires code { IsCode (digits_of start) }
-        ensures entered { walk_of self.new ≡ entered self.old.table.now (digits_of start) (walk_of self.old) }
+        requires code { IsCode (digits_of start.now) }
+        ensures entered { walk_of self.new ≡ entered self.old.table.now (digits_of start.now) (walk_of self.old) }
         ensures same { Same self.old self.new }
     {
         let row = row_at(self.table, self.row);
@@ -131,11 +131,11 @@ impl<'a> Walk<'a> {
     }
 
     /// Ends the innermost open entry.
-    fn leave(&mut self, end: Code)
+    fn leave(&mut self, end: &Code)
         requires ready { Ready self.old.table.now (walk_of self.old) }
         requires some { 0 < self.old.level }
-        requires code { IsCode (digits_of end) }
-        ensures ended { walk_of self.new ≡ ended (digits_of end) (walk_of self.old) }
+        requires code { IsCode (digits_of end.now) }
+        ensures ended { walk_of self.new ≡ ended (digits_of end.now) (walk_of self.old) }
         ensures same { Same self.old self.new }
     {
         registers::write_end(self.register, self.path[self.level - 1], end);
@@ -157,5 +157,5 @@ pub(crate) fn first_codes(table: &[u32], register: &mut [u8], n: usize)
         row: 0,
         level: 0,
     };
-    walk.gap(Code::open(), Code::open(), 2 * n + 1);
+    walk.gap(&Code::open(), &Code::open(), 2 * n + 1);
 }

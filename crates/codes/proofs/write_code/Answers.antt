@@ -7,10 +7,10 @@ use Rattle.codes.proofs.FieldLaws.{field_length}
 use Rattle.codes.proofs.write_code.Goals as goal
 
 pub packed-requires : goal.packed-requires
-packed-requires c = record { slots = code_slots (digits_of c.args.code) c.requires.code }
+packed-requires c = record { slots = code_slots (digits_of c.args.code.now) c.requires.code }
 
 pub returns : goal.returns
 returns c = record {
-  bytes = put_copied _ _ _ _ _ (omega (arith, field_length (digits_of c.args.code)))
+  bytes = put_copied _ _ _ _ _ (omega (arith, field_length (digits_of c.args.code.now)))
       (c.copy_from_slice.ensures.after ∙ c.packed.ensures.field);
 }
