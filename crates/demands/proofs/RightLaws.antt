@@ -6,10 +6,10 @@ use mathlib.Core.Bool.{Bool, true, false, not, ◌&&◌, and-eq-true_iff, false�
 use mathlib.Core.List.{List, [], ◌∷◌}
 use Prim.Native.Nat.{ℕ, suc, ◌+◌, ◌<◌}
 use native.Mathlib.Omega.{arith}
-use lib.IntN.{ℤ, pos}
+use lib.IntN.{ℤ}
 use lib.ListN.{length, get_or, get_or-map}
 use Rattle.digits.specs.Order.{Digits, order_by}
-use Rattle.answers.specs.Signed.{yes_no, signed_as}
+use Rattle.answers.specs.Signed.{yes_no}
 use Rattle.codes.specs.Reading.{is_same}
 use Rattle.codes.proofs.ReadingLaws.{is_same_true, is_same_refl}
 use Rattle.labels.specs.Questions.{order, is_above, is_parent, is_sibling, order_answer, above_answer, parent_answer, sibling_answer}
@@ -204,12 +204,11 @@ module _ (b : List ℕ) (f : Forest (Entry Name)) (h : Holds b f) where
         above = rw (n, m) (says_above i j k l);
         parent = rw (n, m) (says_parent i j k l);
         sibling = rw (n, m) (says_sibling i j k l);
-        distance = rw (n, m) (ap (λ r. signed_as {A = ℤ} (λ z. z) r)
-            (sym (distance_found b x y sound (At i) (At j) (sym (found i k)) (sym (found j l)))));
+        distance = rw (n, m) (sym (distance_found b x y sound (At i) (At j) (sym (found i k)) (sym (found j l))));
         place = rw n (sym (place_found b x sound (At i) (sym (found i k))));
         depth = rw n (
           depth_in (line_at b i) (lines_of b),
-          ap (λ r. signed_as pos r) (sym (depth_found b x sound (At i) (sym (found i k)))),
+          sym (depth_found b x sound (At i) (sym (found i k))),
           depth_image names f (depth_in (line_at b i) (lines_of b)) (line_at b i) (depth_held b f h (line_at b i) (present i k)),
         );
       }
