@@ -35,6 +35,7 @@ pub enum Refusal {
 
 impl Refusal {
     /// Its number for the host program.
+    // No `From`: it would be the same `match`, and these two have clauses that callers cite.
     #[inline(always)]
     pub fn number(self) -> u32
         ensures number { result ≡ number_of self }

@@ -7,7 +7,7 @@ ghost use Rattle.codes.specs.Words.{word_at, blanks as blanks_of, full, ended, i
 use crate::spread::Code;
 
 /// A packed field.
-// Compared by words as they are needed: std's comparison of arrays is no memcmp, and was tried at 1.6 to 3.3 times plain Rust.
+// Compared by words as they are needed: std's comparison of arrays is no memcmp, and took 1.6 to 3.3 times plain Rust in a trial.
 pub type Field = [u8; Code::FIELD];
 
 // A 1 in each of a word's 32 digits.

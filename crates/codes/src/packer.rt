@@ -3,7 +3,7 @@ ghost use Rattle.std.specs.Prelude.{◌≡◌};
 ghost use Rattle.codes.specs.Packer.{nothing, begun as begun_of, pushed, Open, Pushable};
 
 /// The byte that is being filled, and how many digits were pushed.
-// It stays a record of the two, pushed by value, with one thin function over `&mut`: the rule for packing names it so.
+// Nothing compares or prints it. It stays a record of the two, pushed by value, with one thin function over `&mut`: the rule for packing names it so.
 #[derive(Clone, Copy)]
 pub struct Packer {
     pub pending: u8,

@@ -8,6 +8,7 @@ ghost use Rattle.codes.specs.Spread.{digits_of, made_of, cut_by, Held, Short, Fi
 use crate::field::Field;
 
 /// The first count of the digits; the rest counts for nothing. There is room for one more than a code may have.
+// Nothing compares or prints it as it lies.
 // The array with its count stays: no heap, fixed memory. `Short` and `Fit` stay clauses, and no invariant: the step may make 128
 // digits, which `Code::between` then refuses, so that a type of at most 127 would need a second one beside it.
 #[derive(Clone, Copy)]
@@ -24,6 +25,7 @@ impl Code {
     pub const FIELD: usize = 32;
 
     /// No digits: an open side.
+    // No `Option<Code>`: the definitions say the empty list for an open side, so the step has no case of its own for it.
     #[inline(always)]
     pub fn open() -> Self
         ensures held { Held result [] }
@@ -71,6 +73,7 @@ impl Code {
 }
 
 /// The one code between two sides; a side with no digits is open.
+// Left and right stay two arguments: two codes that lie where they are lent; a struct of both would be made anew at each cut.
 #[inline(always)]
 pub fn step(left: &Code, right: &Code) -> Code
     requires left { Short left.now }

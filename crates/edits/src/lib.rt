@@ -280,10 +280,7 @@ impl Place {
     fn is_inside(self) -> bool
         ensures inside { result ≡ is_inside (where_of self) }
     {
-        match self {
-            Place::FirstChildOf(_) | Place::LastChildOf(_) => true,
-            Place::Before(_) | Place::After(_) => false,
-        }
+        matches!(self, Place::FirstChildOf(_) | Place::LastChildOf(_))
     }
 
     /// Only before and after the root, entry 0, an entry would have no parent.
@@ -297,10 +294,7 @@ impl Place {
     fn is_upward(self) -> bool
         ensures upward { result ≡ is_upward (where_of self) }
     {
-        match self {
-            Place::FirstChildOf(_) | Place::After(_) => true,
-            Place::LastChildOf(_) | Place::Before(_) => false,
-        }
+        matches!(self, Place::FirstChildOf(_) | Place::After(_))
     }
 
     /// Where the target's own code stands that is next to the place.

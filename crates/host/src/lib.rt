@@ -107,6 +107,7 @@ pub extern "C" fn plant_distance(register: &[u8], x: u32, y: u32) -> i32
 }
 
 /// Puts an entry in as the first child of the target; its place.
+// Four functions, one for each place: the C interface, include/plant.h, names them so.
 #[unsafe(no_mangle)]
 pub extern "C" fn plant_insert_first(
     register: &mut [u8],

@@ -8,10 +8,11 @@ ghost use Rattle.identities.specs.Rows.{is_fresh, earlier, is_all_new};
 use std::marker::Model;
 
 /// Twice as many as there are rows at most. A free place holds 0.
+// No `Option<u32>`: each place would take 8 bytes, and the stack that plant.h states has no room for 64 KB.
 pub const PLACES: usize = 8192;
 
 /// The identities used so far. It stays a table in fixed memory, searched by hand: std's sets need the heap, which the rule of
-/// fixed memory forbids, and a sort of the identities takes 2.5 times as long (60 against 24 microseconds for 4,096).
+/// fixed memory forbids, and a sort of the identities took twice as long and more in a trial (60 against 24 to 31 microseconds for 4,096).
 #[derive(Drop)]
 pub struct Used {
     pub places: [u32; PLACES],

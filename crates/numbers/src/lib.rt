@@ -1,4 +1,5 @@
-//! 32-bit numbers in the bytes of a lent slice, lowest byte first.
+//! 32-bit numbers in the bytes of a lent slice, lowest byte first. What is written is said of the whole buffer, by `put`, as each call
+//! that stands on it says it.
 #![tactic(auto)]
 
 ghost use Rattle.std.specs.Prelude.{◌≡◌, ◌+◌, ◌≤◌, length};

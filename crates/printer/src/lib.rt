@@ -10,6 +10,7 @@ use std::io::Write;
 use texts::{LINE, Unreadable};
 
 /// Prints the lines of the first n entries.
+// Of any register that has them, not only of a sound one: a `Sound` would ask more.
 pub fn lines(rt: &impl Print, register: &[u8], n: usize) -> io::Result<()>
     requires entries { entry_place n ≤ length register.now }
 {
@@ -21,6 +22,7 @@ pub fn lines(rt: &impl Print, register: &[u8], n: usize) -> io::Result<()>
 
 /// Prints the line of entry i.
 // The buffer and its length stay, here and in `refused`: `texts::line` and `texts::refused` promise what they leave in a lent buffer.
+// Two functions: one over a closure would need a clause on the closure's length and be no shorter.
 fn line(rt: &impl Print, register: &[u8], i: usize) -> io::Result<()>
     requires entry { entry_place i + entry_size ≤ length register.now }
 {

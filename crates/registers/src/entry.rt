@@ -10,6 +10,7 @@ pub struct Name {
 }
 
 /// A name and the three codes of a label.
+// That the three are codes stays a clause of `write_entry`: tried as a ghost field, the checker finds no proof that it is a proposition.
 #[derive(Clone, Copy)]
 pub struct Entry {
     pub name: Name,

@@ -133,6 +133,7 @@ pub fn fields_below(register: &[u8], x: usize, y: usize) -> bool
 }
 
 /// Where entry i begins.
+// Places are plain numbers: the definitions of the layout say them so; a type of numbers below the limit would be made at each call.
 #[inline(always)]
 pub fn entry_place(i: usize) -> usize
     requires most { i ≤ most_entries }
@@ -179,6 +180,8 @@ fn field_place(i: usize, at: usize) -> usize
 }
 
 /// Leaves the count of entries and the zero behind it.
+// It and the writers below take the register and an entry's number: their clauses `bytes` say every byte, and of a struct that holds
+// the `&mut` the register's owner would learn none (tried in `tables`).
 pub fn write_header(register: &mut [u8], count: usize)
     requires room { header_size ≤ length register.old }
     requires most { count ≤ most_entries }

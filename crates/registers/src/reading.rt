@@ -82,6 +82,7 @@ impl<'a> Reading<'a> {
         ensures new { result ≡ is_all_new (identities (lines_of self.now.bytes.now)) }
     {
         let mut all = [0u32; MOST];
+        // By number: a `zip` with the slots would count beside it.
         for i in 0..self.count {
             all[i] = self.identity(i);
         }
@@ -117,6 +118,7 @@ impl<'a> Reading<'a> {
     }
 
     /// Two fields, each of a code or empty, hold the same.
+    // Not one with `fields_below`: a line each, and this one asks less of its fields.
     #[tactic(auto, using(crate::proofs::SoundLaws::sides_same))]
     pub(crate) fn fields_same(&self, x: usize, y: usize) -> bool
         requires sides { SideAt self.now.bytes.now x × SideAt self.now.bytes.now y }

@@ -23,7 +23,7 @@ struct Walk<'a> {
     level: usize,
 }
 
-// `Ready` stands in clauses, not in the type: of a struct with a model that holds a `&mut`, the register's owner learns no byte at the
+// `Ready` and `Same` stand in clauses, not in the type: of a struct with a model that holds a `&mut`, the register's owner learns no byte at the
 // end, and `first_codes` promises every byte (tried: its clause `bytes` stays open).
 impl<'a> Walk<'a> {
     ghost use Rattle.std.specs.Prelude.{true, ◌<◌};

@@ -59,6 +59,7 @@ pub fn line(register: &[u8], i: usize, out: &mut [u8]) -> usize
     ensures length { result ≡ length (entry_text (entry_at register.now i)) }
     ensures fits { result ≤ LINE }
 {
+    // Not `entry_place(i)`: it asks for at most 4,096, which the clause `entry` does not.
     let from = HEADER + ENTRY * i;
     let label = from + ENTRY_LABEL;
     let mut line = Cursor { out, at: 0 };

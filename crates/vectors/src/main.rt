@@ -6,16 +6,13 @@ ghost use Rattle.std.specs.Prelude.{◌*◌, ◌^◌, ◌<◌, ◌≤◌, length
 ghost use Rattle.vectors.specs.declared.TheConstants.{WORKED_BUFFER};
 
 use answers::Refusal;
-use codes::Code;
+use codes::{Code, Field};
 use labels::{END, PARENT, START};
 use printer::answered;
 use registers::{COUNT, ENTRY, ENTRY_LABEL, HEADER, IDENTITY, MOST, TAG, ZERO};
 use std::alloc::Global;
 use std::io;
 use tables::ROW;
-
-/// A packed field.
-type Field = [u8; Code::FIELD];
 
 /// What a lent buffer holds before a call: 5a.
 const FILL: u8 = 90;
