@@ -61,7 +61,7 @@ struct Planned {
 }
 
 /// Where the codes on both sides of a place stand.
-#[derive(Clone, Copy)]
+#[derive(Clone, Copy, Debug, PartialEq, Eq)]
 struct Gap {
     left: usize,
     right: usize,
@@ -102,7 +102,7 @@ fn plan_insertion(register: &Sound, place: Place, name: Name) -> Result<Planned,
     ensures err { IfErr result (λ r. insert_outcome (bytes_of register.now) (where_of place) (target_of place) (name_of name)
         ≡ refused r (bytes_of register.now)) }
 {
-    let at = found(register, place.target())?;
+    let at = register.place_of(place.target())?;
     if !place.is_parented(at) {
         return Err(Refusal::Root);
     }
@@ -125,25 +125,13 @@ fn plan_deletion(register: &Sound, target: u32) -> Result<usize, Refusal>
     ensures fits { IfOk result (λ i. i < count_of (bytes_of register.now)) }
     ensures err { IfErr result (λ r. delete_outcome (bytes_of register.now) target ≡ refused r (bytes_of register.now)) }
 {
-    let at = found(register, target)?;
+    let at = register.place_of(target)?;
     if at == 0 {
         return Err(Refusal::Root);
     }
     if !search::leaf(register, at) {
         return Err(Refusal::Children);
     }
-    Ok(at)
-}
-
-/// The place of an edit's target. Refuses 6.
-fn found(register: &Sound, target: u32) -> Result<usize, Refusal>
-    ensures ok { IfOk result (λ i. (found_in (bytes_of register.now) target ≡ Found.At i) × (i < count_of (bytes_of register.now))) }
-    ensures err { IfErr result (λ r. (r ≡ Refusal.Target) × (found_in (bytes_of register.now) target ≡ Found.Nothing)) }
-{
-    // `Found` and `let else` stay: the lookup's own enum is kept by a rule of the project.
-    let Found::At(at) = register.reading.find(target) else {
-        return Err(Refusal::Target);
-    };
     Ok(at)
 }
 

@@ -1,5 +1,6 @@
 //! The calls of `codes`, `labels`, `registers`, `tables` and `edits` as C functions, as include/plant.h declares them: each makes a
 //! signed number of what the call answers.
+//! Each writing call has two clauses, `answer` and `bytes`, as the call that it stands on: by these names its promise is cited.
 #![tactic(auto)]
 
 ghost use Rattle.std.specs.Prelude.{◌≡◌};

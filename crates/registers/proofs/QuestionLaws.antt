@@ -1,5 +1,5 @@
 -- Laws of the size of a register, of its identities, and of the loops that look for one or count what is above one. Assumes nothing.
-use Rattle.std.specs.Prelude.{Err}
+use Rattle.std.specs.Prelude.{Result, Ok, Err, IfOk, IfErr}
 use mathlib.Core.Path.{◌≡◌, refl, sym, ap, ◌∙◌, subst}
 use mathlib.Core.Bool.{Bool, true, false, cond, ◌&&◌, and-eq-true_iff}
 use mathlib.Core.List.{List, [], ◌∷◌, ◌++◌}
@@ -20,6 +20,7 @@ use Rattle.digits.specs.Order.{is_below}
 use Rattle.digits.proofs.ListLaws.{all_at}
 use Rattle.numbers.specs.Bytes.{number_at}
 use Rattle.codes.specs.Code.{IsCode}
+use Rattle.answers.specs.declared.Refusal.{Refusal}
 use Rattle.answers.specs.declared.Refusal.TheVariants.{Register, Target}
 use Rattle.answers.specs.Signed.{signed_as, Signable}
 use Rattle.identities.specs.Identities.{is_among}
@@ -302,6 +303,12 @@ module _ (b : List ℕ) (x : ℕ) where
   pub place_found : is_register_sound b ≡ true → (f : Found) → f ≡ found_in b x → place_as f ≡ place_answer b x
   unfolding place_answer
   place_found e f g = rw (e, g) refl
+
+  -- what is answered where it is there and where it is not
+  pub placed : (r : Result ℕ Refusal) → IfOk r (λ i. (found_in b x ≡ At i) × (i < count_of b))
+      → IfErr r (λ e. (e ≡ Target) × (found_in b x ≡ Nothing)) → r ≡ place_as (found_in b x)
+  placed (Ok i) h k = ap place_as (sym h.0)
+  placed (Err e) h k = ap Err k.0 ∙ ap place_as (sym k.1)
 
   pub depth_unsound : is_register_sound b ≡ false → Err Register ≡ depth_result b x
   unfolding depth_result

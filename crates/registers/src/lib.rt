@@ -52,7 +52,7 @@ pub const ENTRY: usize = ENTRY_LABEL + LABEL;
 
 /// Where an identity stands, from 0, or that it does not.
 // An enum of its own, taken apart by `let else`: a rule of the project on this lookup keeps it.
-#[derive(Clone, Copy)]
+#[derive(Clone, Copy, Debug, PartialEq, Eq)]
 pub enum Found {
     At(usize),
     Nothing,
@@ -63,10 +63,7 @@ pub fn place(register: &[u8], identity: u32) -> Result<usize, Refusal>
     ensures answer { result ≡ place_answer register.now identity }
 {
     let register = Sound::check(register)?;
-    let Found::At(place) = register.reading.find(identity) else {
-        return Err(Refusal::Target);
-    };
-    Ok(place)
+    register.place_of(identity)
 }
 
 /// The depth of an identity. Refuses 5, 6.
@@ -74,9 +71,7 @@ pub fn depth(register: &[u8], identity: u32) -> Result<usize, Refusal>
     ensures answer { result ≡ depth_result register.now identity }
 {
     let register = Sound::check(register)?;
-    let Found::At(place) = register.reading.find(identity) else {
-        return Err(Refusal::Target);
-    };
+    let place = register.place_of(identity)?;
     Ok(register.depth_at(place))
 }
 
@@ -85,12 +80,8 @@ pub fn distance(register: &[u8], x: u32, y: u32) -> Result<i32, Refusal>
     ensures answer { result ≡ distance_result register.now x y }
 {
     let register = Sound::check(register)?;
-    let Found::At(from) = register.reading.find(x) else {
-        return Err(Refusal::Target);
-    };
-    let Found::At(to) = register.reading.find(y) else {
-        return Err(Refusal::Target);
-    };
+    let from = register.place_of(x)?;
+    let to = register.place_of(y)?;
     Ok(to as i32 - from as i32)
 }
 
@@ -191,6 +182,20 @@ pub fn write_header(register: &mut [u8], count: usize)
     numbers::write_u32(register, ZERO, 0);
 }
 
+// Leaves identity, tag and start of entry i.
+#[inline(always)]
+fn write_head(register: &mut [u8], i: usize, name: Name, start: &Code)
+    requires place { HasPlace register.old i }
+    requires start { IsCode (digits_of start.now) }
+    ensures bytes { register.new ≡ put register.old (entry_place i)
+        (le4 name.identity ++ (le4 name.tag ++ field_of (digits_of start.now))) }
+{
+    let place = entry_place(i);
+    numbers::write_u32(register, place + IDENTITY, name.identity);
+    numbers::write_u32(register, place + TAG, name.tag);
+    codes::write_code(register, place + ENTRY_LABEL + START, start);
+}
+
 /// Leaves identity, tag and start of entry i, and an empty end.
 pub fn begin(register: &mut [u8], i: usize, name: Name, start: &Code)
     requires place { HasPlace register.old i }
@@ -198,11 +203,8 @@ pub fn begin(register: &mut [u8], i: usize, name: Name, start: &Code)
     ensures bytes { register.new ≡ put register.old (entry_place i)
         (le4 name.identity ++ (le4 name.tag ++ (field_of (digits_of start.now) ++ field_of []))) }
 {
-    let place = entry_place(i);
-    let end = place + ENTRY_LABEL + END;
-    numbers::write_u32(register, place + IDENTITY, name.identity);
-    numbers::write_u32(register, place + TAG, name.tag);
-    codes::write_code(register, place + ENTRY_LABEL + START, start);
+    write_head(register, i, name, start);
+    let end = end_place(i);
     register[end..end + Code::FIELD].fill(0);
 }
 
@@ -229,12 +231,9 @@ pub fn write_entry(register: &mut [u8], i: usize, entry: &Entry)
           parent = digits_of entry.now.parent;
         })) }
 {
-    let at = entry_place(i);
-    numbers::write_u32(register, at + IDENTITY, entry.name.identity);
-    numbers::write_u32(register, at + TAG, entry.name.tag);
-    codes::write_code(register, at + ENTRY_LABEL + START, &entry.start);
-    codes::write_code(register, at + ENTRY_LABEL + END, &entry.end);
-    codes::write_code(register, at + ENTRY_LABEL + PARENT, &entry.parent);
+    write_head(register, i, entry.name, &entry.start);
+    codes::write_code(register, end_place(i), &entry.end);
+    codes::write_code(register, parent_place(i), &entry.parent);
 }
 
 /// Leaves an empty parent start in entry i.

@@ -1,5 +1,5 @@
 //! A register that is read: bytes in which all entries stand that they count, and such bytes that were found to be sound.
-ghost use Rattle.std.specs.Prelude.{◌≡◌, true, false, ◌<◌, MatchOption, MatchResult};
+ghost use Rattle.std.specs.Prelude.{◌≡◌, true, false, ◌<◌, MatchOption, MatchResult, IfOk, IfErr};
 ghost use Rattle.digits.specs.Order.{is_below};
 ghost use Rattle.codes.specs.Reading.{is_same};
 ghost use Rattle.codes.specs.Spread.{Held, Short};
@@ -10,6 +10,7 @@ ghost use Rattle.registers.specs.Holds.{identities};
 ghost use Rattle.registers.specs.Sound.{line_at, is_sound_label, HasEntries, CodeAt, SideAt};
 ghost use Rattle.registers.specs.Questions.{count_of, lines_of, is_sized, is_register_sound, found_in, depth_in};
 ghost use Rattle.answers.specs.declared.Refusal.{Refusal};
+ghost use Rattle.registers.specs.declared.Found.{Found};
 
 use crate::walk::Labelled;
 use crate::{
@@ -162,6 +163,19 @@ impl<'a> Sound<'a> {
             depth += usize::from(labelled.above(i, place));
         }
         depth
+    }
+
+    /// The place of the entry with an identity. Refuses 6.
+    pub fn place_of(&self, identity: u32) -> Result<usize, Refusal>
+        ensures ok { IfOk result (λ i. (found_in self.now.reading.bytes.now identity ≡ Found.At i)
+            × (i < count_of self.now.reading.bytes.now)) }
+        ensures err { IfErr result (λ r. (r ≡ Refusal.Target) × (found_in self.now.reading.bytes.now identity ≡ Found.Nothing)) }
+    {
+        // `Found` and `let else` stay: the lookup's own enum is kept by a rule of the project.
+        let Found::At(place) = self.reading.find(identity) else {
+            return Err(Refusal::Target);
+        };
+        Ok(place)
     }
 
     /// A sound register has sound labels.

@@ -11,6 +11,7 @@ use crate::reading::Reading;
 use crate::{DEEPEST, end_place, parent_place, start_place};
 
 /// Entries whose labels are all sound.
+// That a number is one of a counted entry stays a clause of the methods: the walk makes the numbers itself, as it goes.
 #[derive(Clone, Copy)]
 pub(crate) struct Labelled<'a> {
     pub(crate) reading: Reading<'a>,
@@ -103,6 +104,7 @@ impl<'a> Labelled<'a> {
     }
 
     /// Entry i is above entry j.
+    // Not by `Label::is_above`: the labels were checked once, and a `Label` would be read and checked again for each pair.
     #[inline(always)]
     pub(crate) fn above(&self, i: usize, j: usize) -> bool
         requires places { (i < self.now.reading.count) × (j < self.now.reading.count) }

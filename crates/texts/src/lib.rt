@@ -29,6 +29,7 @@ pub const MOST_TEXT: usize = 33 * MOST_LINES;
 pub const LINE: usize = 2 * 11 + 3 * (Code::LONGEST + 1);
 
 /// The numbers of a line.
+// `tables` has such a row of its own: it is no crate under this one.
 #[derive(Clone, Copy)]
 struct Row {
     identity: u32,
@@ -52,6 +53,7 @@ impl fmt::Display for Unreadable {
 impl Error for Unreadable {}
 
 /// Leaves the text of entry i at the front of `out` and answers its length.
+// Of any register that has the entry, not only of a sound one: a `Sound` would ask more.
 pub fn line(register: &[u8], i: usize, out: &mut [u8]) -> usize
     requires entry { entry_place i + entry_size ≤ length register.now }
     requires room { LINE ≤ length out.old }
@@ -85,6 +87,7 @@ pub fn refused(refusal: Refusal, out: &mut [u8]) -> usize
 }
 
 /// A lent buffer and where the next byte goes.
+// How much room is asked differs with what is written, so that it stays in clauses.
 // By hand, since no clause says which bytes std's `write!` leaves in a slice: the clause `text` of `line` needs them, and a String a heap.
 #[derive(Drop)]
 struct Cursor<'a> {
@@ -188,6 +191,7 @@ pub fn read_table(text: &[u8], table: &mut [u32]) -> Result<usize, Unreadable>
 {
     let mut rest = text;
     let mut n = 0;
+    // No `for`: the end of the text decides, and `n` is the answer; with a `for` up to the most lines both would be asked twice.
     while !rest.is_empty() {
         if n == MOST_LINES {
             return Err(Unreadable);
