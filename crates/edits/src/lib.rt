@@ -60,6 +60,15 @@ struct Planned {
     entry: Entry,
 }
 
+/// A place of an entry that is there, and the number of that entry.
+#[derive(Clone, Copy)]
+struct Spot<'a> {
+    register: Sound<'a>,
+    place: Place,
+    at: usize,
+    ghost inside: { at < count_of register.reading.bytes.now },
+}
+
 /// Where the codes on both sides of a place stand.
 #[derive(Clone, Copy, Debug, PartialEq, Eq)]
 struct Gap {
@@ -106,16 +115,21 @@ fn plan_insertion(register: &Sound, place: Place, name: Name) -> Result<Planned,
     if !place.is_parented(at) {
         return Err(Refusal::Root);
     }
+    let spot = Spot {
+        register: *register,
+        place,
+        at,
+    };
     if !fresh(register, name.identity) {
         return Err(Refusal::Identity);
     }
-    if (DEEPEST as usize) < level(register, place, at) {
+    if (DEEPEST as usize) < spot.level() {
         return Err(Refusal::Depth);
     }
     if !has_room(register) {
         return Err(Refusal::Room);
     }
-    plan_at(register, place, at, name)
+    spot.plan(name)
 }
 
 /// A deletion as the place of the entry. Refuses 6, 7, 9.
@@ -135,34 +149,6 @@ fn plan_deletion(register: &Sound, target: u32) -> Result<usize, Refusal>
     Ok(at)
 }
 
-/// The codes of a new entry between its neighbours, and its place. Refuses 8.
-fn plan_at(register: &Sound, place: Place, at: usize, name: Name) -> Result<Planned, Refusal>
-    requires at { at < count_of (bytes_of register.now) }
-    requires parented { is_parented (where_of place) at ≡ true }
-    ensures ok { IfOk result (λ p. put_outcome (bytes_of register.now) (name_of name)
-        (tree_in (bytes_of register.now)) (spot_in (bytes_of register.now) (where_of place) at)
-        ≡ accepted p.place (inserted_bytes (bytes_of register.now) p.place (entry_of p.entry))) }
-    ensures fits { IfOk result (λ p. (p.place ≤ count_of (bytes_of register.now)) × AreCodes p.entry) }
-    ensures err { IfErr result (λ r. put_outcome (bytes_of register.now) (name_of name)
-        (tree_in (bytes_of register.now)) (spot_in (bytes_of register.now) (where_of place) at)
-        ≡ refused r (bytes_of register.now)) }
-{
-    let gap = neighbours(register, place, at);
-    let right = register.reading.code_at(gap.right);
-    let start = fitting(codes::step(&register.reading.code_at(gap.left), &right))?;
-    let end = fitting(codes::step(&start, &right))?;
-    let parent = register.reading.code_at(place.parent_from(at));
-    Ok(Planned {
-        place: search::starts_below(register, gap.right),
-        entry: Entry {
-            name,
-            start,
-            end,
-            parent,
-        },
-    })
-}
-
 /// A code that is no longer than codes may be. Refuses 8.
 fn fitting(code: Code) -> Result<Code, Refusal>
     ensures ok { IfOk result (λ fit. (fit ≡ code) × (code.count ≤ longest)) }
@@ -172,31 +158,6 @@ fn fitting(code: Code) -> Result<Code, Refusal>
         return Err(Refusal::CodeLength);
     }
     Ok(code)
-}
-
-/// The neighbours of a place: one is the target's own code, the other is found.
-#[tactic(auto, using(crate::proofs::PlaceLaws::sides))]
-fn neighbours(register: &Sound, place: Place, at: usize) -> Gap
-    requires at { at < count_of (bytes_of register.now) }
-    requires parented { is_parented (where_of place) at ≡ true }
-    ensures codes { CodeAt (bytes_of register.now) result.left × CodeAt (bytes_of register.now) result.right }
-    ensures left { code_at (bytes_of register.now) result.left ≡ left_of starts ends
-        (tree_in (bytes_of register.now)) (spot_in (bytes_of register.now) (where_of place) at) }
-    ensures right { code_at (bytes_of register.now) result.right ≡ right_of starts ends
-        (tree_in (bytes_of register.now)) (spot_in (bytes_of register.now) (where_of place) at) }
-{
-    let own = place.own_place(at);
-    if place.is_upward() {
-        Gap {
-            left: own,
-            right: search::nearest::<Upward>(register, own),
-        }
-    } else {
-        Gap {
-            left: search::nearest::<Downward>(register, own),
-            right: own,
-        }
-    }
 }
 
 /// Moves the entries from a place on up by one, and leaves the new entry there.
@@ -242,13 +203,68 @@ fn has_room(register: &Sound) -> bool
     n < MOST && entry_place(n + 1) <= register.reading.bytes.len()
 }
 
-/// The depth of an entry at a place of entry `at`.
-fn level(register: &Sound, place: Place, at: usize) -> usize
-    requires at { at < count_of (bytes_of register.now) }
-    ensures level { result ≡ level_at (tree_in (bytes_of register.now))
-        (spot_in (bytes_of register.now) (where_of place) at) }
-{
-    register.depth_at(at) + usize::from(place.is_inside())
+impl<'a> Spot<'a> {
+    /// The codes of a new entry between its neighbours, and its place. Refuses 8.
+    fn plan(&self, name: Name) -> Result<Planned, Refusal>
+        requires parented { is_parented (where_of self.now.place) self.now.at ≡ true }
+        ensures ok { IfOk result (λ p. put_outcome (bytes_of self.now.register) (name_of name)
+            (tree_in (bytes_of self.now.register)) (spot_in (bytes_of self.now.register) (where_of self.now.place) self.now.at)
+            ≡ accepted p.place (inserted_bytes (bytes_of self.now.register) p.place (entry_of p.entry))) }
+        ensures fits { IfOk result (λ p. (p.place ≤ count_of (bytes_of self.now.register)) × AreCodes p.entry) }
+        ensures err { IfErr result (λ r. put_outcome (bytes_of self.now.register) (name_of name)
+            (tree_in (bytes_of self.now.register)) (spot_in (bytes_of self.now.register) (where_of self.now.place) self.now.at)
+            ≡ refused r (bytes_of self.now.register)) }
+    {
+        let gap = self.neighbours();
+        let right = self.register.reading.code_at(gap.right);
+        let start = fitting(codes::step(&self.register.reading.code_at(gap.left), &right))?;
+        let end = fitting(codes::step(&start, &right))?;
+        let parent = self
+            .register
+            .reading
+            .code_at(self.place.parent_from(self.at));
+        Ok(Planned {
+            place: search::starts_below(&self.register, gap.right),
+            entry: Entry {
+                name,
+                start,
+                end,
+                parent,
+            },
+        })
+    }
+
+    /// The neighbours of a place: one is the target's own code, the other is found.
+    #[tactic(auto, using(crate::proofs::PlaceLaws::sides))]
+    fn neighbours(&self) -> Gap
+        requires parented { is_parented (where_of self.now.place) self.now.at ≡ true }
+        ensures codes { CodeAt (bytes_of self.now.register) result.left × CodeAt (bytes_of self.now.register) result.right }
+        ensures left { code_at (bytes_of self.now.register) result.left ≡ left_of starts ends
+            (tree_in (bytes_of self.now.register)) (spot_in (bytes_of self.now.register) (where_of self.now.place) self.now.at) }
+        ensures right { code_at (bytes_of self.now.register) result.right ≡ right_of starts ends
+            (tree_in (bytes_of self.now.register)) (spot_in (bytes_of self.now.register) (where_of self.now.place) self.now.at) }
+    {
+        let own = self.place.own_place(self.at);
+        if self.place.is_upward() {
+            Gap {
+                left: own,
+                right: search::nearest::<Upward>(&self.register, own),
+            }
+        } else {
+            Gap {
+                left: search::nearest::<Downward>(&self.register, own),
+                right: own,
+            }
+        }
+    }
+
+    /// The depth of an entry there.
+    fn level(&self) -> usize
+        ensures level { result ≡ level_at (tree_in (bytes_of self.now.register))
+            (spot_in (bytes_of self.now.register) (where_of self.now.place) self.now.at) }
+    {
+        self.register.depth_at(self.at) + usize::from(self.place.is_inside())
+    }
 }
 
 impl Place {

@@ -1,4 +1,4 @@
--- `plan_at` meets its contract. Assumes nothing.
+-- `Spot::plan` meets its contract. Assumes nothing.
 use mathlib.Core.Path.{ap, ◌∙◌}
 use Rattle.digits.specs.Order.{Digits}
 use Rattle.digits.specs.Between.{between}
@@ -9,12 +9,12 @@ use Rattle.edits.specs.Edits.{where_of}
 use Rattle.edits.specs.Plans.{name_of}
 use Rattle.edits.proofs.PlaceLaws.{parent_found}
 use Rattle.edits.proofs.PlanLaws.{planned, planned_codes}
-use Rattle.edits.proofs.plan_at.Goals as goal
-use Rattle.edits.proofs.plan_at.Goals.{After-starts_below}
+use Rattle.edits.proofs.Spot.plan.Goals as goal
+use Rattle.edits.proofs.Spot.plan.Goals.{After-starts_below}
 
 pub code_at-parent-requires : goal.code_at-parent-requires
 code_at-parent-requires c =
-    let p = parent_found _ c.args.register.now.sound (where_of c.args.place) _ c.requires.at c.requires.parented _
+    let p = parent_found _ c.args.self.now.register.sound (where_of c.args.self.now.place) _ c.args.self.now.inside c.requires.parented _
     c.parent_from.ensures.place
     in record { code = p.0 }
 
@@ -27,8 +27,8 @@ end c = rw c.in_ok-end.ensures.ok.0 c.step-2.ensures.held
 
 pub returns-clause-ok : goal.returns-clause-ok
 returns-clause-ok c =
-    let b = c.args.register.now.reading.bytes.now in
-    planned b c.args.register.now.sound (where_of c.args.place) _ c.requires.at c.requires.parented _ _ _ _ _
+    let b = c.args.self.now.register.reading.bytes.now in
+    planned b c.args.self.now.register.sound (where_of c.args.self.now.place) _ c.args.self.now.inside c.requires.parented _ _ _ _ _
     (c.code_at.ensures.held.digits ∙ c.neighbours-gap.ensures.left) (c.code_at-right.ensures.held.digits ∙ c.neighbours-gap.ensures.right)
     (start c) (end c) (rw c.in_ok-start.ensures.ok.0 c.in_ok-start.ensures.ok.1) (rw c.in_ok-end.ensures.ok.0 c.in_ok-end.ensures.ok.1)
     _ c.parent_from.ensures.place c.code_at-parent.ensures.held.digits (name_of c.args.name) _
@@ -37,7 +37,7 @@ returns-clause-ok c =
 pub returns-clause-fits : goal.returns-clause-fits
 returns-clause-fits c = (
   c.starts_below.ensures.most,
-  planned_codes _ c.args.register.now.sound (where_of c.args.place) _ c.requires.at c.requires.parented _ _ _ _ _
+  planned_codes _ c.args.self.now.register.sound (where_of c.args.self.now.place) _ c.args.self.now.inside c.requires.parented _ _ _ _ _
       (c.code_at.ensures.held.digits ∙ c.neighbours-gap.ensures.left) (c.code_at-right.ensures.held.digits ∙ c.neighbours-gap.ensures.right)
       (start c) (end c) (rw c.in_ok-start.ensures.ok.0 c.in_ok-start.ensures.ok.1)
       (rw c.in_ok-end.ensures.ok.0 c.in_ok-end.ensures.ok.1)
