@@ -156,15 +156,7 @@ pub fn compare(left: &Field, right: &Field) -> i32
 pub fn below(left: &Field, right: &Field) -> bool
     ensures order { result ≡ is_below left.now right.now }
 {
-    let (a, b) = (word(left, 0), word(right, 0));
-    if a != b {
-        return a < b;
-    }
-    let (a, b) = (word(left, 1), word(right, 1));
-    if a != b {
-        return a < b;
-    }
-    last_two(left) < last_two(right)
+    compare(left, right) < 0
 }
 
 /// The two fields are the same to the last byte.

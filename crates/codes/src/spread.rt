@@ -143,16 +143,15 @@ fn slot(field: &[u8], i: usize) -> u8
 pub(crate) fn of_field(field: &Field) -> Code
     ensures held { Held result (lead (spread field.now)) }
 {
-    let mut digits = [0; Code::LONGEST + 1];
+    let mut code = Code::open();
     for i in 0..4 * Code::FIELD {
         let digit = slot(field, i);
         if digit == 0 {
-            return Code { digits, count: i };
+            code.count = i;
+            return code;
         }
-        digits[i] = digit;
+        code.digits[i] = digit;
     }
-    Code {
-        digits,
-        count: 4 * Code::FIELD,
-    }
+    code.count = 4 * Code::FIELD;
+    code
 }

@@ -24,7 +24,7 @@ loop-i-preserved c =
     let h = c.loop-i-test.true in
     record {
       size = simp length-set c.loop-i.invariant.size;
-      array = stored_next c.loop-i.digits x i _ (omega (arith, h, c.loop-i.invariant.size)) (omega (arith, n, h))
+      array = stored_next c.loop-i.code.digits x i _ (omega (arith, h, c.loop-i.invariant.size)) (omega (arith, n, h))
           c.slot-digit.ensures.digit c.loop-i.invariant.array;
       led = led_next x i (omega (arith, n, h)) (λ z. c.if-digit-eq0.false (c.slot-digit.ensures.digit ∙ z)) c.loop-i.invariant.led;
     }
@@ -36,6 +36,6 @@ returns c =
     let e : c.loop-i.i ≡ 128 = omega (arith, c.loop-i-test.false, c.loop-i.auto.i-end) in
     record {
       held = rw e at
-          (stored_all c.loop-i.digits x _ c.loop-i.i (omega (arith, n, e)) c.loop-i.invariant.array
+          (stored_all c.loop-i.code.digits x _ c.loop-i.i (omega (arith, n, e)) c.loop-i.invariant.array
           (led_all x c.loop-i.i (omega (arith, n, e)) c.loop-i.invariant.led));
     }

@@ -6,7 +6,7 @@ use Rattle.codes.proofs.spread.of_field.Given as goal
 
 abbrev pub invariant-loop-i : goal.invariant-loop-i
 invariant-loop-i l = record {
-  size : length l.digits ≡ 128;
-  array : take l.i l.digits ≡ take l.i (spread l.field);
+  size : length l.code.digits ≡ 128;
+  array : take l.i l.code.digits ≡ take l.i (spread l.field);
   led : Led (spread l.field) l.i;
 }
