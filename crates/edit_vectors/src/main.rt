@@ -10,7 +10,6 @@ use edits::{Edit, Place};
 use labels::{END, PARENT, START};
 use printer::answered;
 use registers::{ENTRY, ENTRY_LABEL, HEADER, MOST};
-use std::alloc::Global;
 use std::io;
 use tables::ROW;
 
@@ -34,7 +33,7 @@ fn main(rt: HostRuntime) -> io::Result<()> {
     growth(&rt)?;
     ends(&rt)?;
     depths(&rt)?;
-    entries(&rt, rt.alloc())
+    entries(&rt)
 }
 
 /// What a call answers whose refusal would be a fault of the test.
@@ -341,12 +340,13 @@ fn grown<F: Fn(u32) -> Place>(register: &mut [u8], place: F) -> u32
 }
 
 /// Both sides of 4,096 entries, with room for one more.
-fn entries(rt: &impl Print, alloc: Global) -> io::Result<()> {
-    let mut register = vec![in alloc; FILL; HEADER + ENTRY * (MOST + 1)]?;
-    let mut table = vec![in alloc; 1, 1, 0]?;
-    for identity in 2..MOST as u32 {
-        table.extend_from_slice(&[identity, 1, 1])?;
+fn entries(rt: &impl Print) -> io::Result<()> {
+    let mut register = [FILL; HEADER + ENTRY * (MOST + 1)];
+    let mut table = [1; ROW * (MOST - 1)];
+    for row in 0..MOST as u32 - 1 {
+        table[ROW * row as usize] = row + 1;
     }
+    table[2] = 0;
     accepted(tables::label(&table, &mut register))?;
     let cases = [
         (

@@ -10,7 +10,6 @@ use codes::{Code, Field};
 use labels::{END, PARENT, START};
 use printer::answered;
 use registers::{COUNT, ENTRY, ENTRY_LABEL, HEADER, IDENTITY, MOST, TAG, ZERO};
-use std::alloc::Global;
 use std::io;
 use tables::ROW;
 
@@ -61,7 +60,7 @@ fn main(rt: HostRuntime) -> io::Result<()> {
     betweens(&rt)?;
     longest(&rt)?;
     packer(&rt)?;
-    labelling(&rt, rt.alloc())?;
+    labelling(&rt)?;
     registers_damaged(&rt)
 }
 
@@ -302,7 +301,7 @@ fn packer(rt: &impl Print) -> io::Result<()> {
 }
 
 /// Labelling: the room of the worked rows, each refusal, two reasons at once, and both sides of each limit.
-fn labelling(rt: &impl Print, alloc: Global) -> io::Result<()> {
+fn labelling(rt: &impl Print) -> io::Result<()> {
     let cases: [(&str, &[u32], usize); 12] = [
         ("table of 01 in 424 bytes", &WORKED, WORKED_SIZE),
         ("table of 01 in 423 bytes", &WORKED, WORKED_SIZE - 1),
@@ -334,37 +333,36 @@ fn labelling(rt: &impl Print, alloc: Global) -> io::Result<()> {
         ),
     ];
     for (name, table, room) in cases {
-        label(rt, alloc, name, table, room)?;
+        label(rt, name, table, if room < LARGEST { room } else { LARGEST })?;
     }
     let flat = |row: u32| if row == 0 { 0 } else { 1 };
-    table_of(rt, alloc, "table of 4096 rows", 4096, flat)?;
-    table_of(rt, alloc, "table of 4097 rows", 4097, flat)?;
+    table_of(rt, "table of 4096 rows", 4096, flat)?;
+    table_of(rt, "table of 4097 rows", 4097, flat)?;
     let deeper = |row: u32| row;
-    table_of(rt, alloc, "table of 64 rows, each one deeper", 64, deeper)?;
-    table_of(rt, alloc, "table of 65 rows, each one deeper", 65, deeper)
+    table_of(rt, "table of 64 rows, each one deeper", 64, deeper)?;
+    table_of(rt, "table of 65 rows, each one deeper", 65, deeper)
 }
 
 /// Labels a table of n rows, of which each has the depth that is given for it.
-fn table_of<F: Fn(u32) -> u32>(
-    rt: &impl Print,
-    alloc: Global,
-    name: &str,
-    n: u32,
-    depth: F,
-) -> io::Result<()>
-    requires { F.IsAlwaysCallable depth }
+fn table_of<F: Fn(u32) -> u32>(rt: &impl Print, name: &str, n: u32, depth: F) -> io::Result<()>
+    requires few { n ≤ 4097 }
+    requires depth { F.IsAlwaysCallable depth }
 {
-    let mut table = Vec::new(alloc);
+    let mut table = [0; ROW * (MOST + 1)];
     for row in 0..n {
-        table.extend_from_slice(&[row + 1, 0, depth(row)])?;
+        let at = ROW * row as usize;
+        table[at] = row + 1;
+        table[at + 2] = depth(row);
     }
-    label(rt, alloc, name, &table, LARGEST)
+    label(rt, name, &table[..ROW * n as usize], LARGEST)
 }
 
 /// Labels a table into a register of some bytes.
-fn label(rt: &impl Print, alloc: Global, name: &str, table: &[u32], room: usize) -> io::Result<()> {
-    let mut register = vec![in alloc; FILL; room]?;
-    match tables::label(table, &mut register) {
+fn label(rt: &impl Print, name: &str, table: &[u32], room: usize) -> io::Result<()>
+    requires room { room ≤ LARGEST }
+{
+    let mut register = [FILL; LARGEST];
+    match tables::label(table, &mut register[..room]) {
         Ok(n) => println!(rt; "{name}: bytes {n}"),
         Err(refusal) => println!(rt;
             "{name}: refused {} row {}",
