@@ -15,11 +15,11 @@ use Rattle.codes.specs.Reading.{Reading, code, empty, unsound, read, side_of}
 abbrev pub written : Digits → List ℕ → Outcome
 written x lent = accepted (length x) (put lent 0 (field_of x))
 
--- packing: 12, 4
+-- 01, Packing: 12, 4
 unfoldable pub pack_outcome : Digits → List ℕ → Outcome
 pack_outcome digits lent = unless (is_code digits) NoCode lent (unless (leb field_size (length lent)) Room lent (written digits lent))
 
--- unpacking: 12, 4; it needs room for as many digits as the code has
+-- 01, Unpacking: 12, 4; it needs room for as many digits as the code has
 abbrev pub unpack_as : Reading → List ℕ → Outcome
 unpack_as (code x) lent = unless (leb (length x) (length lent)) Room lent (accepted (length x) (put lent 0 x))
 unpack_as empty lent = refused NoCode lent
@@ -42,7 +42,7 @@ sides_of unsound right = Err NoCode
 abbrev pub between_sides : Digits → List ℕ → Outcome
 between_sides x lent = unless (leb field_size (length lent)) Room lent (unless (leb (length x) longest) CodeLength lent (written x lent))
 
--- between: 12, 13, 4, 8
+-- 01, Between: 12, 13, 4, 8
 abbrev pub between_as : Result ⊤ Refusal → Digits → List ℕ → Outcome
 between_as (Ok ordered) x lent = between_sides x lent
 between_as (Err refusal) x lent = refused refusal lent

@@ -1,18 +1,18 @@
--- A code, with its two limits, each stated once.
+-- 01's code with its two limits, each stated once.
 -- Assumes nothing.
 use Rattle.std.specs.Prelude.{Bool, ◌&&◌, ℕ, leb, ltb}
 use Rattle.digits.specs.Order.{Digits}
 use Rattle.digits.specs.Code.{Within, is_within}
 
--- a code: the largest length
+-- 01, Code: the largest length
 abbrev pub longest : ℕ
 longest = 127
 
--- a packed field: 32 bytes
+-- 01, Packed field: 32 bytes
 abbrev pub field_size : ℕ
 field_size = 32
 
--- a code: 1 to 127 digits, each 1, 2 or 3, the last 2 or 3
+-- 01, Code: 1 to 127 digits, each 1, 2 or 3, the last 2 or 3
 abbrev pub IsCode : Digits → Type 0
 IsCode x = Within 1 3 longest x
 

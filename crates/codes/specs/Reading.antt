@@ -17,7 +17,7 @@ is_same [] (b ∷ y) = false
 is_same (a ∷ x) [] = false
 is_same (a ∷ x) (b ∷ y) = eqb a b && is_same x y
 
--- the packed field: the field of the code x, the empty field, or unsound. The whole field is compared, fill and length with it
+-- 01, Packed field: the field of the code x, the empty field, or unsound. The whole field is compared, fill and length with it
 abbrev pub read_as : Digits → List ℕ → Reading
 read_as x field = cond (is_same field (field_of x)) (cond (is_code x) (code x) (cond (is_same x []) empty unsound)) unsound
 
@@ -35,7 +35,7 @@ is_empty_held (code x) = false
 is_empty_held empty = true
 is_empty_held unsound = false
 
--- for the step between: the digits of a side; an empty field is an open side, with no digits
+-- 01, between: the digits of a side; an empty field is an open side, with no digits
 abbrev pub side_of : Reading → Digits
 side_of (code x) = x
 side_of empty = []

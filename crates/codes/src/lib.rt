@@ -149,7 +149,7 @@ fn packed(digits: &[u8]) -> Field
     let mut field = [0; Code::FIELD];
     let mut packer = Packer::new();
     for (i, digit) in digits.iter().enumerate() {
-        packer.push_in(*digit);
+        packer = packer.push(*digit);
         field[i / 4] = packer.pending;
     }
     field

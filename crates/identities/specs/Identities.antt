@@ -2,7 +2,7 @@
 -- Assumes nothing.
 use Rattle.std.specs.Prelude.{◌≡◌, Bool, true, false, cond, not, Option, Some, None, List, [], ◌∷◌, ◌⊎◌, ℕ, ◌+◌, ◌*◌, ◌<◌, ◌/◌, ◌%◌, eqb, length, get_or}
 
--- a number is among those used
+-- 01, refusal 3: a number is among those used
 abbrev pub is_among : ℕ → List ℕ → Bool
 is_among x [] = false
 is_among x (y ∷ ys) = cond (eqb x y) true (is_among x ys)

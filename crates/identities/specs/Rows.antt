@@ -3,7 +3,7 @@
 use Rattle.std.specs.Prelude.{Bool, true, not, ◌&&◌, List, [], ◌∷◌, ℕ, zero, suc, ◌*◌, eqb, get_or}
 use Rattle.identities.specs.Identities.{is_among}
 
--- an identity that is not 0 and not yet used
+-- 01, refusal 3: identity 0 or already used
 abbrev pub is_fresh : ℕ → List ℕ → Bool
 is_fresh identity used = not (eqb identity 0) && not (is_among identity used)
 

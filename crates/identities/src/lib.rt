@@ -37,40 +37,53 @@ impl Used {
     }
 
     /// The identity of row `i` is not 0 and stands in no row above; then it is entered.
+    #[inline(always)]
     pub fn new_at(&mut self, numbers: &[u32], stride: usize, i: usize) -> bool
         requires inside { stride * i < length numbers.now }
         requires held { Holds self.old (earlier stride numbers.now i) }
         ensures fresh { result ≡ is_fresh (get_or numbers.now (stride * i) 0) (earlier stride numbers.now i) }
         ensures held { result ≡ true → Holds self.new (earlier stride numbers.now (suc i)) }
     {
-        let identity = numbers[stride * i];
-        identity != 0
-            && match self.enter(identity) {
-                Some(new) => new,
-                None => !stands_above(numbers, stride, i, identity),
-            }
+        new_at(numbers, stride, i, &mut self.places)
     }
+}
 
-    /// Enters an identity that is not 0: whether it is new, or `None` where no place is free. An `Option<bool>` says that with
-    /// no enum of its own: its one caller passes the `bool` on, and searches plainly at `None`.
-    fn enter(&mut self, identity: u32) -> Option<bool>
-        requires some { identity ≢ 0 }
-        ensures entered { Entering self.old identity result self.new }
-    {
-        let start = hash(identity);
-        for d in 0..PLACES {
-            let i = (start + d) % PLACES;
-            let there = self.places[i];
-            if there == 0 {
-                self.places[i] = identity;
-                return Some(true);
-            }
-            if there == identity {
-                return Some(false);
-            }
+/// The identity of row `i` is not 0 and stands in no row above; then it is entered.
+// It stays beside the method of `Used`: it asks only for places that are lent, wherever they lie.
+pub fn new_at(numbers: &[u32], stride: usize, i: usize, places: &mut [u32]) -> bool
+    requires inside { stride * i < length numbers.now }
+    requires held { Holds places.old (earlier stride numbers.now i) }
+    ensures fresh { result ≡ is_fresh (get_or numbers.now (stride * i) 0) (earlier stride numbers.now i) }
+    ensures held { result ≡ true → Holds places.new (earlier stride numbers.now (suc i)) }
+{
+    let identity = numbers[stride * i];
+    identity != 0
+        && match enter(places, identity) {
+            Some(new) => new,
+            None => !stands_above(numbers, stride, i, identity),
         }
-        None
+}
+
+/// Enters an identity that is not 0: whether it is new, or `None` where no place is free. An `Option<bool>` says that with
+/// no enum of its own: its one caller passes the `bool` on, and searches plainly at `None`.
+fn enter(places: &mut [u32], identity: u32) -> Option<bool>
+    requires size { length places.old ≡ place_count }
+    requires some { identity ≢ 0 }
+    ensures entered { Entering places.old identity result places.new }
+{
+    let start = hash(identity);
+    for d in 0..PLACES {
+        let i = (start + d) % PLACES;
+        let there = places[i];
+        if there == 0 {
+            places[i] = identity;
+            return Some(true);
+        }
+        if there == identity {
+            return Some(false);
+        }
     }
+    None
 }
 
 // Where the search for an identity begins: the upper 13 of the 32 bits of a product.

@@ -5,7 +5,7 @@ use Rattle.digits.specs.Order.{Digits, is_below}
 use Rattle.codes.specs.Code.{field_size}
 use Rattle.codes.specs.Reading.{Reading, code, empty, unsound, read, is_code_held, is_empty_held, side_of}
 
--- a label: start, end, parent start; where each field begins, and how many bytes there are
+-- 01, Label: start, end, parent start; where each field begins, and how many bytes there are
 abbrev pub start_at : ℕ
 start_at = 0
 
@@ -39,13 +39,13 @@ label_of bytes = record {
   parent = side_of (read (field_at parent_at bytes));
 }
 
--- the parent start is empty or a code below start
+-- 01, Label: the parent start is empty or a code below start
 abbrev pub is_parent_sound : Reading → Digits → Bool
 is_parent_sound (code parent) start = is_below parent start
 is_parent_sound empty start = true
 is_parent_sound unsound start = false
 
--- start and end are codes, start is below end
+-- 01, Label: start and end are codes, start is below end
 abbrev pub is_sound_as : Reading → Reading → Reading → Bool
 is_sound_as (code start) (code end) parent = is_below start end && is_parent_sound parent start
 is_sound_as (code start) empty parent = false
@@ -53,7 +53,7 @@ is_sound_as (code start) unsound parent = false
 is_sound_as empty end parent = false
 is_sound_as unsound end parent = false
 
--- a sound label has exactly 96 bytes
+-- 01, refusal 11: a sound label has exactly 96 bytes
 unfoldable pub is_sound : List ℕ → Bool
 is_sound bytes =
     eqb (length bytes) label_size

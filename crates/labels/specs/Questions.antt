@@ -9,11 +9,11 @@ use Rattle.answers.specs.Signed.{refused_as, yes_no, signed_as}
 use Rattle.codes.specs.Reading.{is_same}
 use Rattle.labels.specs.Label.{Label, label_of, is_sound}
 
--- minus one, zero or plus one by start
+-- 01: minus one, zero or plus one by start
 abbrev pub order : Label → Label → ℤ
 order u v = order_by u.start v.start
 
--- u's start below v's and v's end below u's
+-- 01: u's start below v's and v's end below u's
 abbrev pub is_above : Label → Label → Bool
 is_above u v = is_below u.start v.start && is_below v.end u.end
 
@@ -21,11 +21,11 @@ is_above u v = is_below u.start v.start && is_below v.end u.end
 abbrev pub is_orphan : Label → Bool
 is_orphan u = is_same u.parent []
 
--- v's parent start is not empty and equals u's start
+-- 01: v's parent start is not empty and equals u's start
 abbrev pub is_parent : Label → Label → Bool
 is_parent u v = not (is_orphan v) && is_same v.parent u.start
 
--- both parent starts non-empty and equal, starts different
+-- 01: both parent starts non-empty and equal, starts different
 abbrev pub is_sibling : Label → Label → Bool
 is_sibling u v = not (is_orphan u) && not (is_orphan v) && is_same u.parent v.parent && not (is_same u.start v.start)
 

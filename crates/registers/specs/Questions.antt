@@ -76,7 +76,7 @@ depth_result bytes x = cond (is_register_sound bytes) (depth_as bytes (found_in 
 abbrev pub depth_answer : List ℕ → ℕ → ℤ
 depth_answer bytes x = signed_as pos (depth_result bytes x)
 
--- place of y minus place of x, signed; x before y
+-- 01: place of y minus place of x, signed; x before y
 abbrev pub distance_as : Found → Found → Result ℤ Refusal
 distance_as (At i) (At j) = Ok (pos j -ℤ pos i)
 distance_as (At i) Nothing = Err Target

@@ -1,7 +1,7 @@
 //! A register: its layout, its soundness, the questions on it, and an entry's parts written in their places.
 #![tactic(auto)]
 
-ghost use Rattle.std.specs.Prelude.{◌≡◌, ◌++◌, [], ◌+◌, ◌≤◌, ◌<◌, length};
+ghost use Rattle.std.specs.Prelude.{◌≡◌, true, ◌++◌, [], ◌+◌, ◌≤◌, ◌<◌, length};
 ghost use Rattle.numbers.specs.Bytes.{put, le4};
 ghost use Rattle.codes.specs.Code.{IsCode};
 ghost use Rattle.codes.specs.Field.{field_of};
@@ -9,8 +9,8 @@ ghost use Rattle.codes.specs.Spread.{digits_of, Held, Short};
 ghost use Rattle.labels.specs.Label.{field_at, label_size};
 ghost use Rattle.digits.specs.Order.{is_below};
 ghost use Rattle.registers.specs.Entries.{code_at, entry_bytes};
-ghost use Rattle.registers.specs.Sound.{CodeAt};
-ghost use Rattle.registers.specs.Questions.{count_of, is_register_sound, place_answer, depth_result, distance_result};
+ghost use Rattle.registers.specs.Sound.{line_at, CodeAt};
+ghost use Rattle.registers.specs.Questions.{count_of, lines_of, is_sized, is_register_sound, found_in, depth_in, place_answer, depth_result, distance_result};
 ghost use Rattle.registers.specs.Layout.{most_entries, count_at, header_size, label_at, entry_place, start_place, end_place, parent_place, HasPlace};
 
 mod entry;
@@ -90,6 +90,34 @@ pub fn sound(register: &[u8]) -> bool
     ensures sound { result ≡ is_register_sound register.now }
 {
     Sound::check(register).is_ok()
+}
+
+/// Where an identity stands among the counted entries.
+// It stays beside the method of `Reading`: of the bytes it asks only that the counted entries stand in them.
+pub fn find(register: &[u8], identity: u32) -> Found
+    requires sized { is_sized register.now ≡ true }
+    ensures found { result ≡ found_in register.now identity }
+{
+    Reading {
+        bytes: register,
+        count: count(register),
+    }
+    .find(identity)
+}
+
+/// The number of entries above the one at a place.
+// It stays beside the method of `Sound`: a caller that knows the bytes to be sound has no check to make.
+#[tactic(auto, using(crate::proofs::QuestionLaws::sized_of))]
+pub fn depth_at(register: &[u8], place: usize) -> usize
+    requires sound { is_register_sound register.now ≡ true }
+    requires place { place < count_of register.now }
+    ensures depth { result ≡ depth_in (line_at register.now place) (lines_of register.now) }
+{
+    let reading = Reading {
+        bytes: register,
+        count: count(register),
+    };
+    Sound { reading }.depth_at(place)
 }
 
 /// The number of entries that a register says it has.

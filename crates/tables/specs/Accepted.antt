@@ -1,4 +1,4 @@
--- An accepted table: what is asked of it, on the rows as a table of `trees`.
+-- An accepted table: what 01 asks of it, on the rows as a table of `trees`.
 -- Assumes nothing.
 use Rattle.std.specs.Prelude.{List, map, ◌≢◌, ℕ, ◌≤◌, length}
 use Rattle.digits.specs.Lists.{All, Distinct}
@@ -20,7 +20,7 @@ table_tree table = forest (named (rows_of table))
 abbrev pub identities : List Row → List ℕ
 identities rows = map (λ r. r.identity) rows
 
--- 1 to 4,096 rows, depths by the rule, identities not 0 and all different
+-- 01, Table: 1 to 4,096 rows, depths by the rule, identities not 0 and all different
 pub record Accepted (rows : List Row) : Type 0 where
   pub some : 1 ≤ length rows
   pub most : length rows ≤ most_rows

@@ -1,4 +1,4 @@
--- The table's rules in their order: its size, then rows from the top, in a row the depth before the identity.
+-- The table's rules, in the paper's order: 1, then rows from the top, 2 before 3 in a row.
 -- Assumes nothing.
 use Rattle.std.specs.Prelude.{Bool, cond, ◌&&◌, List, [], ◌∷◌, ℕ, suc, ◌+◌, ◌/◌, ◌%◌, eqb, leb, length, Result, Ok, Err}
 use Rattle.answers.specs.declared.Refusal.{Refusal}
@@ -8,15 +8,15 @@ use Rattle.registers.specs.Layout.{deepest}
 use Rattle.tables.specs.declared.Row.{Row}
 use Rattle.tables.specs.Table.{most_rows, row_size, rows_of}
 
--- a whole number of rows, 1 to 4,096
+-- 01, refusal 1: 0 or more than 4,096 rows, or not a whole number of rows
 abbrev pub is_size : List ℕ → Bool
 is_size table = eqb (length table % row_size) 0 && (leb 1 (length table / row_size) && leb (length table / row_size) most_rows)
 
--- a later depth is at least 1, at most the previous depth plus 1, and at most 63
+-- 01, Table: a later depth is at least 1, at most the previous depth plus 1, and at most 63
 abbrev pub is_depth : ℕ → ℕ → Bool
 is_depth previous depth = leb 1 depth && (leb depth (previous + 1) && leb depth deepest)
 
--- a row whose depth is right, by its identity
+-- 01, refusal 3: a row whose depth is right, by its identity
 abbrev pub identity_at : ℕ → Bool → Result ℕ Refusal → Result ℕ Refusal
 identity_at row fresh later = cond fresh later (Err (RowIdentity row))
 

@@ -4,11 +4,11 @@ use Rattle.std.specs.Prelude.{List, [], ◌∷◌, ℕ}
 use Rattle.registers.specs.Layout.{most_entries}
 use Rattle.tables.specs.declared.Row.{Row}
 
--- as many rows as a register has entries
+-- 01, Table: as many rows as a register has entries
 abbrev pub most_rows : ℕ
 most_rows = most_entries
 
--- identity, tag, depth
+-- 01, Table: identity, tag, depth
 abbrev pub row_size : ℕ
 row_size = 3
 

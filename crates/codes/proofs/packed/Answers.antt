@@ -9,15 +9,15 @@ pub loop-i-init : goal.loop-i-init
 unfolding field_of
 loop-i-init c = record { packer = c.new-packer.ensures.nothing ∙ sym pushes_nil; field = refl }
 
-pub push_in-requires : goal.push_in-requires
-push_in-requires c = record {
+pub push-packer-requires : goal.push-packer-requires
+push-packer-requires c = record {
   pushable = next_pushable c.args.digits.now c.loop-i.i c.requires.slots c.loop-i-test.true c.loop-i.packer c.loop-i.invariant.packer;
 }
 
 pub loop-i-preserved : goal.loop-i-preserved
 loop-i-preserved c =
     let inv = c.loop-i.invariant in
-    let pushed = c.push_in.ensures.pushed in
+    let pushed = c.push-packer.ensures.pushed in
     record {
       packer = next_pushes c.args.digits.now c.loop-i.i c.requires.slots c.loop-i-test.true _ _ inv.packer pushed;
       field = next_field c.args.digits.now c.loop-i.i c.requires.slots c.loop-i-test.true _ _ _ inv.field inv.packer pushed;

@@ -1,7 +1,7 @@
 -- The first d places looked at are taken, and not by the identity.
 use Rattle.std.proofs.Common.{◌≡◌}
 use Rattle.identities.specs.Identities.{Passed}
-use Rattle.identities.proofs.Used.enter.Given as goal
+use Rattle.identities.proofs.enter.Given as goal
 
 abbrev pub invariant-loop-d : goal.invariant-loop-d
-invariant-loop-d l = (l.self-inside.places ≡ l.fn.self) × Passed l.self-inside.places l.identity l.d
+invariant-loop-d l = (l.places ≡ l.fn.places) × Passed l.places l.identity l.d
