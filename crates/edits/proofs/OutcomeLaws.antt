@@ -26,7 +26,7 @@ use Rattle.registers.specs.Holds.{identities}
 use Rattle.registers.specs.Questions.{count_of, lines_of, is_register_sound, found_in, tree_in}
 use Rattle.registers.proofs.QuestionLaws.{found_among, among_found}
 use Rattle.edits.specs.Splice.{inserted_bytes, deleted_bytes}
-use Rattle.edits.specs.Edits.{is_parented, has_room, spot_in, put_outcome, insert_found, insert_outcome, delete_found, delete_outcome}
+use Rattle.edits.specs.Edits.{is_parented, has_room, spot_in, put_outcome, insert_at, insert_found, insert_outcome, delete_found, delete_outcome}
 
 -- 8
 module _ (b : List ℕ) (m : Name) (f : Forest (Entry Name)) (q : Spot f) where
@@ -46,6 +46,11 @@ module _ (b : List ℕ) (x : ℕ) where
   new_identity h e = sym (fresh_right x (identities (lines_of b)) (h, found_among x 0 (identities (lines_of b)) e))
 
 pub ruleset freshness = (found_identity, new_identity)
+
+-- an identity that is not fresh
+pub at_used : (b : List ℕ) (w : Where) (i : ℕ) (m : Name) → is_parented w i ≡ true
+    → is_fresh m.identity (identities (lines_of b)) ≡ false → insert_at b w i m ≡ refused Identity b
+at_used b w i m e k = rw (e, k) refl
 
 -- room for one more
 module _ (b : List ℕ) where

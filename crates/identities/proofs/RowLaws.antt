@@ -3,7 +3,7 @@ use mathlib.Core.Path.{◌≡◌, refl, sym, ap, ◌∙◌}
 use mathlib.Core.Logic.{◌≢◌}
 use mathlib.Core.Bool.{Bool, true, false, cond, not, ◌&&◌, ◌||◌, or-true, or-false, or_assoc, and-false, and-eq-true_iff, false≢true}
 use mathlib.Core.List.{List, [], ◌∷◌}
-use Prim.Native.Nat.{ℕ, zero, suc, ◌+◌, ◌*◌, ◌≤◌, ◌<◌}
+use Prim.Native.Nat.{ℕ, zero, suc, ◌+◌, ◌-◌, ◌*◌, ◌≤◌, ◌<◌}
 use native.Mathlib.Nat.{one-mul, add-zero}
 use native.Mathlib.Omega.{arith}
 use lib.Dec.{eqb}
@@ -44,6 +44,14 @@ any_above stride t x (suc i) = any_last here 0 i i (omega arith) ∙ ap (λ b. b
     either : (a b : Bool) → (b || a) ≡ cond a true b
     either true b = or-true b
     either false b = or-false b
+
+-- a row above that has another identity is passed
+pub above_passed : (stride : ℕ) (t : List ℕ) (x k : ℕ) → 0 < k → (x ≡ get_or t (stride * (k - 1)) 0 → ⊥)
+    → is_among x (earlier stride t k) ≡ is_among x (earlier stride t (k - 1))
+above_passed stride t x zero h e = absurd (omega arith)
+above_passed stride t x (suc k) h e =
+    let p : suc k - 1 ≡ k = omega arith in
+    rw p (simp (ne_eqb x (get_or t (stride * k) 0) (λ q. e (q ∙ ap (λ (j : ℕ). get_or t (stride * j) 0) (sym p)))))
 
 -- an identity that is not 0 and not among some others
 abbrev pub New : List ℕ → ℕ → Type 0

@@ -4,18 +4,22 @@ use mathlib.Core.Path.{◌≡◌, refl, sym, ap, ◌∙◌}
 use mathlib.Core.Logic.{◌⊎◌, inl, inr}
 use mathlib.Core.Bool.{Bool, true, false, cond, ◌&&◌, and-eq-true_iff, false≢true}
 use mathlib.Core.List.{List, []}
-use Prim.Native.Nat.{ℕ}
+use Prim.Native.Nat.{ℕ, ◌+◌, ◌≤◌}
+use native.Mathlib.Omega.{arith}
 use lib.Dec.{eqb}
-use lib.ListN.{length}
+use lib.ListN.{length, length-take, length-drop}
 use borrow.Author.Tests.{eq-eqb, ne_eqb, eqb-true}
 use Rattle.digits.specs.Order.{Digits, Below, is_below}
 use Rattle.digits.proofs.OrderLaws.{is_below_gives}
-use Rattle.codes.specs.Code.{IsCode}
+use Rattle.codes.specs.Code.{field_size, IsCode}
 use Rattle.codes.specs.Field.{field_of}
 use Rattle.codes.specs.Reading.{Reading, code, empty, unsound, read, is_code_held, is_empty_held, side_of}
 use Rattle.codes.proofs.ReadingLaws.{Sided, read_code, read_empty, held_code}
 use Rattle.codes.proofs.CallLaws.{held_below}
 use Rattle.labels.specs.Label.{start_at, end_at, parent_at, label_size, field_at, Label, label_of, label_by, are_sound, is_parent_sound, is_sound_as, is_sound}
+
+pub field_size_lem : (b : List ℕ) (at : ℕ) → at + field_size ≤ length b → length (field_at at b) ≡ field_size
+field_size_lem b at h = simp (length-take, length-drop) (omega arith)
 
 -- a test that holds, as a fact
 pub is_below_holds : (x y : Digits) → is_below x y ≡ true → Below x y

@@ -49,6 +49,11 @@ signed_answered f u v answer = go (is_sound u && is_sound v)
     go true = refl
     go false = refl
 
+-- two labels with different parent starts
+pub sibling_apart : (u v : Label) → is_same u.parent v.parent ≡ false → false ≡ is_sibling u v
+sibling_apart u v h =
+    sym (rw (h, and-false (not (is_orphan u) && not (is_orphan v))) refl)
+
 -- two sound labels by their fields
 module _ (us ue up vs ve vp : List ℕ) (u v : Label) (s : SoundFields us ue up u) (t : SoundFields vs ve vp v) where
   pub order_fields : order_by us vs ≡ order u v

@@ -50,7 +50,7 @@ module _ (l r a b : Digits) (d : ℕ) (h : 3 ≤ d) (ea : a ≡ first l r) (eb :
       record { lower = p.0; first_code = p.1; middle = q.0; second_code = q.1; upper = q.2 }
 
   -- the walk along the gap is the walk along its parts
-  walked_parts : (t : List ℕ) (w : Walk) → walked t (thirds l r d) w
+  pub walked_parts : (t : List ℕ) (w : Walk) → walked t (thirds l r d) w
       ≡ walked t (thirds b r (right_part d)) (stepped t b (walked t (thirds a b (middle_part d)) (stepped t a (walked t
       (thirds l a (left_part d)) w))))
   walked_parts t w =

@@ -1,13 +1,13 @@
 -- Laws of the walk along the tour: what it keeps, its parts, and the bytes of an entry that is begun.
 -- Assumes nothing.
 use mathlib.Core.Path.{◌≡◌, refl, ap, ◌∙◌}
-use mathlib.Core.Bool.{true, false, and-eq-true_iff}
+use mathlib.Core.Bool.{Bool, true, false, cond, and-eq-true_iff}
 use mathlib.Core.List.{List, [], ◌∷◌, ◌++◌, append_assoc}
 use Prim.Native.Nat.{ℕ, ◌+◌, ◌-◌, ◌≤◌, ◌<◌}
 use native.Mathlib.Omega.{arith}
 use lib.Dec.{eqb, ltb}
 use lib.ListN.{length, set, length-append, length-set}
-use borrow.Author.Tests.{ltb-true, eqb-true, ne_eqb, lt-ltb, le-ltb}
+use borrow.Author.Tests.{ltb-true, eqb-true, eqb-false, ne_eqb, lt-ltb, le-ltb}
 use Rattle.digits.specs.Order.{Digits}
 use Rattle.digits.proofs.ListLaws.{all_map, all_at, all_set}
 use Rattle.numbers.specs.Bytes.{put, le4}
@@ -101,6 +101,20 @@ module _ {t : List ℕ} {w : Walk} (r : Ready t w) where
         levels = r.levels;
         begun = r.begun;
       }
+
+  -- a code keeps what the walk keeps
+  pub ready_stepped : (x : Digits) → Ready t (stepped t x w)
+  ready_stepped x = go (is_start t w.row w.level) refl (eqb w.level 0) refl
+    where
+      go : (s : Bool) → is_start t w.row w.level ≡ s → (z : Bool) → eqb w.level 0 ≡ z
+          → Ready t (cond s (entered t x w) (cond z w (left x w)))
+      go true e z f = ready_entered x e
+      go false e true f = r
+      go false e false f = ready_left x (let n = eqb-false w.level 0 f in omega (arith, n))
+
+pub ready_walked : (t : List ℕ) (xs : List Digits) (w : Walk) → Ready t w → Ready t (walked t xs w)
+ready_walked t [] w r = r
+ready_walked t (x ∷ xs) w r = ready_walked t xs (stepped t x w) (ready_stepped r x)
 
 -- the parent start and then the rest of an entry that is begun are its bytes
 pub begun_bytes_lem : (t : List ℕ) (row i g : ℕ) (x : Digits) (b p b₁ b₂ : List ℕ) → HasPlace b row → i ≡ identity_of t row
