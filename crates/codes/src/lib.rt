@@ -141,18 +141,21 @@ fn sides(left: &[u8], right: &[u8]) -> Result<(), Refusal>
     }
 }
 
-// The field of some digits.
-fn packed(digits: &[u8]) -> Field
+// Packs some digits into a field.
+// In place: a field made aside and copied is read back in long words just after it was written byte by byte, which took longer than
+// packing a few digits.
+#[inline(always)]
+fn pack_into(field: &mut [u8], digits: &[u8])
+    requires whole { length field.old ≡ field_size }
     requires slots { Slots digits.now }
-    ensures field { result ≡ field_of digits.now }
+    ensures field { field.new ≡ field_of digits.now }
 {
-    let mut field = [0; Code::FIELD];
+    field.fill(0);
     let mut packer = Packer::new();
     for (i, digit) in digits.iter().enumerate() {
         packer = packer.push(*digit);
         field[i / 4] = packer.pending;
     }
-    field
 }
 
 // Writes the field of some digits over the first bytes of a buffer.
@@ -162,7 +165,7 @@ fn write_field(field: &mut [u8], digits: &[u8])
     requires slots { Slots digits.now }
     ensures bytes { field.new ≡ put field.old 0 (field_of digits.now) }
 {
-    field[..Code::FIELD].copy_from_slice(&packed(digits));
+    pack_into(&mut field[..Code::FIELD], digits);
 }
 
 /// Writes the field of a code that was made over the bytes from a place on.
@@ -172,7 +175,10 @@ pub fn write_code(buffer: &mut [u8], at: usize, code: &Code)
     requires code { IsCode (digits_of code.now) }
     ensures bytes { buffer.new ≡ put buffer.old at (field_of (digits_of code.now)) }
 {
-    buffer[at..at + Code::FIELD].copy_from_slice(&packed(&code.digits[..code.count]));
+    pack_into(
+        &mut buffer[at..at + Code::FIELD],
+        &code.digits[..code.count],
+    );
 }
 
 // Whether the digits are those of a code.

@@ -2,7 +2,7 @@
 use Rattle.std.proofs.Common.{◌≡◌, take}
 use Rattle.codes.specs.Field.{field_of}
 use Rattle.codes.proofs.PackerLaws.{pushes}
-use Rattle.codes.proofs.packed.Given as goal
+use Rattle.codes.proofs.pack_into.Given as goal
 
 abbrev pub invariant-loop-i : goal.invariant-loop-i
 invariant-loop-i l = record {

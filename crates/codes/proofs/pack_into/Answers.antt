@@ -1,13 +1,17 @@
 -- One digit more, and the byte that it goes into.
-use Rattle.std.proofs.Common.{refl, sym, ◌∙◌}
+use Rattle.std.proofs.Common.{sym, ap, ◌∙◌, ℕ}
+use lib.ListN.{replicate}
 use Rattle.codes.specs.Field.{field_of}
 use Rattle.codes.proofs.PackerLaws.{pushes_nil}
 use Rattle.codes.proofs.WriteLaws.{next_pushable, next_pushes, next_field}
-use Rattle.codes.proofs.packed.Goals as goal
+use Rattle.codes.proofs.pack_into.Goals as goal
 
 pub loop-i-init : goal.loop-i-init
 unfolding field_of
-loop-i-init c = record { packer = c.new-packer.ensures.nothing ∙ sym pushes_nil; field = refl }
+loop-i-init c = record {
+  packer = c.new-packer.ensures.nothing ∙ sym pushes_nil;
+  field = c.fill.ensures.after (λ y e. e) ∙ ap (λ (n : ℕ). replicate n 0) c.requires.whole;
+}
 
 pub push-packer-requires : goal.push-packer-requires
 push-packer-requires c = record {
