@@ -1,6 +1,7 @@
 -- 01, Refusal numbers: the number of each refusal and the row that is answered with it.
 -- Assumes nothing.
-use Rattle.std.specs.Prelude.{ℕ}
+use Rattle.std.specs.Prelude.{ℕ, List, ◌∷◌}
+use Rattle.std.specs.Fmt.{decimal}
 use Rattle.answers.specs.declared.Refusal.{Refusal}
 use Rattle.answers.specs.declared.Refusal.TheVariants.{TableSize, RowDepth, RowIdentity, Identity, Room, Register, Target, Root, CodeLength, Children, Depth, Label, NoCode, Order}
 
@@ -36,3 +37,7 @@ row_of Depth = 0
 row_of Label = 0
 row_of NoCode = 0
 row_of Order = 0
+
+-- as the programs print it: `refused`, a space and the number
+abbrev pub printed : Refusal → List ℕ
+printed refusal = 114 ∷ 101 ∷ 102 ∷ 117 ∷ 115 ∷ 101 ∷ 100 ∷ 32 ∷ decimal (number_of refusal)

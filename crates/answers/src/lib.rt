@@ -1,8 +1,8 @@
 //! What a call answers: a value where it is accepted, or why it is refused; and both as one signed number for C.
 #![tactic(auto)]
 
-ghost use Rattle.std.specs.Prelude.{◌≡◌, ◌^◌, ◌≤◌, ◌<◌, ℤ, pos};
-ghost use Rattle.answers.specs.Number.{number_of, row_of};
+ghost use Rattle.std.specs.Prelude.{◌≡◌, ◌^◌, ◌≤◌, ◌<◌, ℤ, pos, Some};
+ghost use Rattle.answers.specs.Number.{number_of, row_of, printed};
 ghost use Rattle.answers.specs.Signed.{refused_as, yes_no, with_row, signed_as, IsSignable, signed_row_of, SignableRow};
 
 use std::error::Error;
@@ -90,6 +90,8 @@ impl Refusal {
 
 /// As the programs print it: `refused` and the number.
 impl fmt::Display for Refusal {
+    ghost output = { λ refusal. Some (printed refusal) };
+
     fn fmt<W: fmt::Write>(&self, f: &mut fmt::Formatter<W>) -> fmt::Result {
         write!(f, "refused {}", self.number())
     }
