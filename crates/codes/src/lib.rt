@@ -142,8 +142,7 @@ fn sides(left: &[u8], right: &[u8]) -> Result<(), Refusal>
 }
 
 // Packs some digits into a field.
-// In place: a field made aside and copied is read back in long words just after it was written byte by byte, which took longer than
-// packing a few digits.
+// In place: a field made aside and then copied took 1.4 times as long for a few digits.
 #[inline(always)]
 fn pack_into(field: &mut [u8], digits: &[u8])
     requires whole { length field.old ≡ field_size }

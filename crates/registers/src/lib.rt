@@ -93,7 +93,7 @@ pub fn sound(register: &[u8]) -> bool
 }
 
 /// Where an identity stands among the counted entries.
-// It stays beside the method of `Reading`: of the bytes it asks only that the counted entries stand in them.
+// It stays beside the method of `Reading`: of the bytes it asks only that they have a register's size.
 pub fn find(register: &[u8], identity: u32) -> Found
     requires sized { is_sized register.now ≡ true }
     ensures found { result ≡ found_in register.now identity }
