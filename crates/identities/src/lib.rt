@@ -75,12 +75,10 @@ fn enter(places: &mut [u32], identity: u32) -> Option<bool>
     for d in 0..PLACES {
         let i = (start + d) % PLACES;
         let there = places[i];
-        if there == 0 {
+        // Both ends of a search in one test: a long search took up to twice as long with two, by where its loop came to lie.
+        if (there == 0) | (there == identity) {
             places[i] = identity;
-            return Some(true);
-        }
-        if there == identity {
-            return Some(false);
+            return Some(there == 0);
         }
     }
     None
